@@ -3,6 +3,7 @@ pub mod TreeLaws
 pub mod Subtrees
 pub mod SameDirectory
 pub mod GraftLaws
+pub mod KnownBelow
 pub mod Naming
 pub mod Spelling
 pub mod BatchLaws

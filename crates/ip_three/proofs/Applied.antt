@@ -12,7 +12,7 @@ use Rattle.ip_base.specs.PathText.{IsStep}
 use Rattle.ip_spec.specs.Path.{Path, IsPath}
 use Rattle.ip_spec.specs.Step.{entries_limit}
 use Rattle.ip_spec.specs.Tree.{Tree, is_empty, subtree, widest}
-use Rattle.ip_spec.specs.View.{View, put_view, remove_view}
+use Rattle.ip_spec.specs.View.{KnowsUnder, View, put_view, remove_view}
 use Rattle.ip_spec.specs.declared.record.Record.{Record}
 use Rattle.ip_tree.specs.Meaning.{RootIs}
 use Rattle.ip_tree.specs.Reads.{IsFree}
@@ -118,5 +118,6 @@ module _ (records : ℕ → Option Record) (b l r : View) (t : Tree) (gone : Lis
       narrow = subst (λ (m : Tree). widest m ≤ entries_limit) done is.narrow;
       oldest = sym (more_oldest r (less l gone) (as_edits come) ∙ less_oldest l gone) ∙ is.oldest;
       known = is.known;
+      below = subst (KnowsUnder (more r (less l gone) (as_edits come)).known) done is.below;
     }
     applied (Err fault) front = put_fault (more r (less l gone) (take front.0 (as_edits come))).map t (wide front.0) fault front.1

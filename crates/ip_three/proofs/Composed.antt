@@ -177,7 +177,7 @@ module _ (records : ℕ → Option Record) (rule : Rule) (b l r : View) where
     short = is.short;
     view = merged_view l r is.map is.gone is.come;
     made = edited_so is.gone is.come root is.edits;
-    is = record { root = is.is.root; lawful = is.is.lawful; narrow = is.is.narrow; oldest = sym same; known = is.is.known };
+    is = record { root = is.is.root; lawful = is.is.lawful; narrow = is.is.narrow; oldest = sym same; known = is.is.known; below = is.is.below };
   }
 
 -- a copy with the least number of both sides

@@ -79,7 +79,7 @@ module _ (records : ℕ → Option Record) (tree : code.Tree) (v r : View) (is :
     part_placed : IsPlacedIn records path n (subtree r.map path) new v → IsView records new (more_at r v path taken)
     part_placed placed =
         let all = grafted records v r path path n part tree is high (let h = high in let l = low in omega arith) right new right_is is_path placed (least new.oldest right.oldest) refl in
-        record { root = all.view.root; lawful = all.view.lawful; narrow = all.view.narrow; oldest = placed.oldest; known = all.view.known }
+        record { root = all.view.root; lawful = all.view.lawful; narrow = all.view.narrow; oldest = placed.oldest; known = all.view.known; below = all.view.below }
 
     puts_part : (result : Result (Unit {0}) TreeFault) → PlacesTree records path n (subtree r.map path) new v result → Puts records (more_at r v path taken) new result
     puts_part (Ok done) placed = part_placed placed

@@ -6,6 +6,7 @@ use Rattle.ip_spec.specs.Path.{Step, Path}
 use Rattle.ip_spec.specs.Step.{entries_limit}
 use Rattle.ip_spec.specs.Tree.{IsTree, entries_of, no_tree, widest, tree_runs}
 use Rattle.ip_spec.specs.View.{no_view}
+use Rattle.ip_spec.proofs.KnownBelow.{none_below}
 use Rattle.ip_spec.specs.declared.record.Record.{Record}
 use Rattle.ip_shape.specs.Directory.{IsDir, root_of}
 use Rattle.ip_shape.specs.Loaded.{IsFresh, unread_in, way_to}
@@ -54,4 +55,5 @@ module _ (records : ℕ → Option Record) (d : Dir Node Stored) (is : IsDir d [
     narrow = no_width;
     oldest = refl;
     known = λ part. nothing_known part.path part.indexes ∙ sym (ap (λ (l : List (Step × Node)). known_at records (directory (root_of d) (nodes_of (map show l))) part.path part.indexes) is.0.0);
+    below = none_below;
   }

@@ -14,6 +14,7 @@ use Rattle.ip_spec.specs.Step.{entries_limit, steps_limit}
 use Rattle.ip_spec.specs.Tree.{Tree, IsTree, subtree, entries_of, height, widest, place, graft, is_empty}
 use Rattle.ip_spec.specs.View.{View, Part, graft_view, grafted_known, is_part, is_part_at, least, touches}
 use Rattle.ip_spec.specs.declared.record.Record.{Record}
+use Rattle.ip_spec.proofs.KnownBelow.{graft_below}
 use Rattle.ip_spec.proofs.Subtrees.{get-subtree, same_tree}
 use Rattle.ip_tree.specs.Edits.{IsSame, PlaceFaultBy, is_full, known_after}
 use Rattle.ip_tree.specs.Finding.{IsPartOf}
@@ -141,6 +142,7 @@ module _ (records : ℕ → Option Record) (v w : View) (from to : Path) (n : to
               narrow = narrow;
               oldest = ap (λ o. least o w.oldest) placed.oldest ∙ ap (least new.oldest) w_is.oldest ∙ sym lesser;
               known = λ part. known_grafted part ∙ sym (placed.known part);
+              below = graft_below v w from to v_is.below w_is.below;
             };
             shallow = λ _. fits;
             narrow = λ _. narrow;

@@ -18,6 +18,7 @@ pub mod PartsTaken
 pub mod DirectoryRead
 pub mod DirectoryEdits
 pub mod StoredBelow
+pub mod StoredWhole
 pub mod KnownStands
 pub mod KnownAfter
 pub mod ContentTold

@@ -2,7 +2,7 @@
 --     leaf_entry, last_entry, next_entry      the entry at a step, from a leaf, and from an inode
 --     more_node, more_root      it means the same
 --     same_entry      a walk to a step leads where it did
---     view_stays      and the same parts are known
+--     whole_same      and the same parts are known.      view_stays      so it has the same view
 use Rattle.std.proofs.Common.{◌≡◌, ℕ, zero, suc, ◌+◌, List, [], ◌∷◌, length, refl, sym, ap, ◌∙◌, Option, Some, None, cond, arith}
 use Rattle.std.specs.Prelude.{IsSomeAnd, option_and_then, option_map}
 use Rattle.std.specs.FinMap.Entries.{find}
@@ -198,7 +198,7 @@ module _ (records more : ℕ → Option Record) (keeps : (at : ℕ) (r : Record)
         ap (λ k. cond (same_bytes s t) k (known_among more ns s path is other)) (there_same n path is (find bytes_cmp t es) (λ sub means. node_same n sub path is means) are.0)
         ∙ ap (cond (same_bytes s t) (known_at records n path is)) (among_same ns es s path is other are.1)
 
-  whole_same : (root : Root) (t : Tree) (path : Path) (is : List ℕ) → RootIs records root t → known_of more root (record { path = path; indexes = is }) ≡ known_of records root (record { path = path; indexes = is })
+  pub whole_same : (root : Root) (t : Tree) (path : Path) (is : List ℕ) → RootIs records root t → known_of more root (record { path = path; indexes = is }) ≡ known_of records root (record { path = path; indexes = is })
   whole_same (unread r) t path is means = directory_same path is r.at (entries_of t).entries means.1.part
   whole_same (loaded root ns) t [] is means = root_same root (entries_of t).entries means.parts is
   whole_same (loaded root ns) t (s ∷ path) is means =
@@ -211,4 +211,5 @@ view_stays records more tree v is keeps = record {
   narrow = is.narrow;
   oldest = is.oldest;
   known = λ p. is.known p ∙ sym (whole_same records more keeps (shown_root tree.root) v.map p.path p.indexes is.root);
+  below = is.below;
 }

@@ -6,6 +6,7 @@ use Rattle.ip_spec.specs.Path.{Path}
 use Rattle.ip_spec.specs.Tree.{remove}
 use Rattle.ip_spec.specs.View.{View, is_part, remove_view, touches}
 use Rattle.ip_spec.specs.declared.record.Record.{Record}
+use Rattle.ip_spec.proofs.KnownBelow.{remove_below}
 use Rattle.ip_shape.specs.declared.dir.Dir.{Dir}
 use Rattle.ip_tree.specs.Known.{known_of}
 use Rattle.ip_tree.specs.Removal.{IsTaken, RemovesFrom}
@@ -32,6 +33,7 @@ module _ (records : ℕ → Option Record) (tree : code.Tree) (v : View) (d : Di
     narrow = remove_narrow v.map path is.narrow;
     oldest = is.oldest;
     known = λ part. ap (λ k. if is_part (remove v.map path) part && not (touches part path) then k else None) (is.known part ∙ ap (λ (x : Root). known_of records (shown_root x) part) loaded) ∙ sym (taken.known part);
+    below = remove_below v path is.below;
   }
 
   pub removes_view : (path : Path) (new : Dir Node Stored) (result : Result Bool TreeFault) → RemovesFrom records path (shown_directory d) (shown_directory new) v.map result → Removes records path (with_root new) v result

@@ -35,7 +35,7 @@ module _ (records : ℕ → Option Record) (tree : code.Tree) (v : View) (is : I
   root_knows root same p = is.known p ∙ ap (λ (x : Root). known_of records (shown_root x) p) same
 
   pub view_by : (root : Root) → RootIs records (shown_root root) v.map → ((p : Part) → v.known p ≡ known_of records (shown_root root) p) → IsView records (record { root = root; oldest = tree.oldest }) v
-  view_by root means known = record { root = means; lawful = is.lawful; narrow = is.narrow; oldest = is.oldest; known = known }
+  view_by root means known = record { root = means; lawful = is.lawful; narrow = is.narrow; oldest = is.oldest; known = known; below = is.below }
 
   pub loaded_view : (r : Ref) (d : Dir Node StoredAt) → tree.root ≡ Stored r → IsDirectory records (shown_directory d) v.map → ((p : Part) → knows records (shown_directory d) p ≡ stored_part records r.at p.path p.indexes)
       → IsView records (record { root = Loaded d; oldest = tree.oldest }) v

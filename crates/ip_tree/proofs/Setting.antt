@@ -8,6 +8,7 @@ use Rattle.ip_spec.specs.Step.{contents_limit, entries_limit}
 use Rattle.ip_spec.specs.Tree.{Tree, contents, put, place, widest}
 use Rattle.ip_spec.specs.View.{View, Part, holds_behind, is_part, put_view}
 use Rattle.ip_spec.specs.declared.record.Record.{Record}
+use Rattle.ip_spec.proofs.KnownBelow.{put_below}
 use Rattle.ip_spec.proofs.Subtrees.{lawful_put, prefix_of_append}
 use Rattle.ip_tree.specs.Edits.{PlaceFaultBy, is_full, known_after}
 use Rattle.ip_tree.specs.Node as view
@@ -51,6 +52,7 @@ module _ (records : ℕ → Option Record) (tree : code.Tree) (v : View) (is : I
       narrow = put_narrow placed.room;
       oldest = placed.oldest;
       known = λ part. sym (placed.known part ∙ forgotten (place v.map path (contents bytes)) part);
+      below = put_below v path bytes is.below;
     };
     short = short;
     narrow = put_narrow placed.room;

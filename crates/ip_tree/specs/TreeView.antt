@@ -1,6 +1,6 @@
 -- A lazy tree as its users see it.
 --     IsView records tree v      over these records, the tree is this view: its map, the least number that it took
---         from, and the parts that records are known to spell, with their offsets
+--         from, and the parts that records are known to spell, with their offsets; below such a part nothing is new
 --     stored_view records n at map      the view of a tree that is read from the store
 --     Sets, Removes, Grafts      what the edits do
 --     IsSetFault, IsGraftFault      when a limit is answered
@@ -10,7 +10,7 @@ use Rattle.ip_spec.specs.Path.{Bytes, Path}
 use Rattle.ip_spec.specs.declared.record.Record.{Record}
 use Rattle.ip_spec.specs.Step.{contents_limit, entries_limit, steps_limit}
 use Rattle.ip_spec.specs.Tree.{Tree, IsTree, height, widest, subtree, is_empty, put, graft}
-use Rattle.ip_spec.specs.View.{View, Part, put_view, remove_view, graft_view}
+use Rattle.ip_spec.specs.View.{View, Part, KnowsBelow, put_view, remove_view, graft_view}
 use Rattle.ip_spec.specs.StoredParts.{stored_part}
 use Rattle.ip_tree.specs.Meaning.{RootIs}
 use Rattle.ip_tree.specs.Known.{known_of}
@@ -26,6 +26,7 @@ pub record IsView (records : ℕ → Option Record) (tree : code.Tree) (v : View
   pub narrow : widest v.map ≤ entries_limit
   pub oldest : v.oldest ≡ tree.oldest
   pub known : (part : Part) → v.known part ≡ known_of records (shown_root tree.root) part
+  pub below : KnowsBelow v
 
 abbrev pub stored_view : (ℕ → Option Record) → ℕ → ℕ → Tree → View
 stored_view records n at map = record { map = map; oldest = Some n; known = λ part. stored_part records at part.path part.indexes }
