@@ -31,9 +31,11 @@ use Rattle.ip_tree.proofs.Found.{reaches}
 use Rattle.ip_tree.proofs.MoreRecords.{same_entry}
 use Rattle.ip_tree.proofs.PartLookups.{through}
 use Rattle.ip_save.specs.Batches.{IsFirst, IsFirstTree}
+use Rattle.ip_save.specs.Laid.{record_of, unless_known}
 use Rattle.ip_save.specs.Reused.{again, again_among, again_root, as_directory, entry_at, held_by, reference_in, same_contents}
 use Rattle.ip_save.proofs.News.{news, news_among, news_root}
 use Rattle.ip_save.proofs.Split.{under}
+use Rattle.ip_save.proofs.Unless.{unless_map}
 
 -- ---- where the other tree has nothing
 
@@ -52,7 +54,7 @@ mutual
   none_again : (records : ℕ → Option Record) (n : Node) → map nothing (news n) ≡ again records n None
   none_again records (stored x) = refl
   none_again records (new_contents b) = refl
-  none_again records (directory root ns) = none_among records ns
+  none_again records (directory root ns) = unless_map (map nothing) (record_of root) [] (news_among ns) ∙ ap (unless_known (record_of root) []) (none_among records ns)
 
   none_among : (records : ℕ → Option Record) (ns : Nodes) → map nothing (news_among ns) ≡ again_among records ns None
   none_among records none = refl
@@ -152,7 +154,8 @@ module _ (records all : ℕ → Option Record) (held : (at : ℕ) (r : Record) �
     node_again : (n : Node) (r : Ref) (t : Tree) → Reaches records r t → map (below t r.at) (news n) ≡ again all n (Some r)
     node_again (stored x) r t there = refl
     node_again (new_contents b) r t there = ap (λ k. k ∷ []) (at_contents b r t there)
-    node_again (directory root ns) r t there = directory_again ns r t there (λ spelled. among_again ns r t spelled)
+    node_again (directory root ns) r t there =
+        unless_map (map (below t r.at)) (record_of root) [] (news_among ns) ∙ ap (unless_known (record_of root) []) (directory_again ns r t there (λ spelled. among_again ns r t spelled))
 
     among_again : (ns : Nodes) (r : Ref) (t : Tree) → PartAt records 0 r.at (entries_of t).entries → map (below t r.at) (news_among ns) ≡ again_among all ns (Some r)
     among_again none r t spelled = refl
@@ -185,11 +188,13 @@ module _ (told : Told) (space : SpaceView) (records : ℕ → Option Record) (ov
 
   root_again : (root : Root) (r : Ref) (t : Tree) → Spells records r t → map (below records (records_of told space) over.held t r.at) (news_root root) ≡ again_root (records_of told space) root (Some r)
   root_again (unread q) r t spells = refl
-  root_again (loaded part ns) r t spells = among_again records (records_of told space) over.held ns r t spells.part
+  root_again (loaded part ns) r t spells =
+      unless_map (map (below records (records_of told space) over.held t r.at)) (record_of part) [] (news_among ns)
+      ∙ ap (unless_known (record_of part) []) (among_again records (records_of told space) over.held ns r t spells.part)
 
   none_root : (root : Root) → map nothing (news_root root) ≡ again_root (records_of told space) root None
   none_root (unread q) = refl
-  none_root (loaded part ns) = none_among (records_of told space) ns
+  none_root (loaded part ns) = unless_map (map nothing) (record_of part) [] (news_among ns) ∙ ap (unless_known (record_of part) []) (none_among (records_of told space) ns)
 
   pub found_first : (root : Root) → AllByRecursion Stands (news_root root) → (r : Option Ref) (other : Option View) → IsFirst records r other → map (λ (e : Path × Bytes). in_first v other e.0) (news_root root) ≡ again_root (records_of told space) root r
   found_first root are None None is = none_root root

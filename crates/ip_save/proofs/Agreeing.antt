@@ -2,7 +2,7 @@
 --     Names x t, NamesPart depth es x      what refers to a tree, and to a part, tells its kind, its name and its height
 --     AgreesAt, AgreesLow      what is laid at a step is what is spelled there
 --     shape_count      how many entries a part has.      each_entry      what holds of each entry that is found
---     Stands, part_agrees      what is laid for a part is what is spelled, if that holds of each entry that was read
+--     part_known      what is laid for a part is what is spelled, where a record is known.      Stands, part_agrees      so it is if that holds of each entry that was read
 use Rattle.std.proofs.Common.{◌≡◌, ℕ, zero, suc, ◌+◌, ◌-◌, ◌<◌, ◌≤◌, max, List, [], ◌∷◌, ◌++◌, refl, sym, ap, subst, ◌∙◌, Option, Some, None, Bool, true, false, cond, map, length, arith, append_assoc, T}
 use Rattle.std.specs.Prelude.{◌==◌, ◌||◌, filter, nat_le, nat_lt, slice_get, option_and_then, if◌then◌else◌, Vec}
 use Rattle.std.specs.Global.{Global}
@@ -346,6 +346,9 @@ module _ (v : View) (offset : Path → ℕ) (deeper : Path → Tree → ℕ → 
           spelled = known_spelled levels indexes es at (offset_of x) it.known ∙ ap spelled_by (sym laid);
           names = subst (λ (l : Laid). NamesPart depth es l.stands) (sym laid) record { kind = it.spells.kind; name = it.spells.name; high = it.spells.height };
         }
+
+    pub part_known : (levels depth : ℕ) (indexes : List ℕ) (es : Entries) (root : Part Stored) (at : ℕ) (x : Stored) → record_of root ≡ Some x → KnownPart indexes root → KnowsBelow depth root es → Agrees levels depth indexes es root at
+    part_known levels depth indexes es root at x is known below = known_agrees levels depth indexes es root at x is (stored_here depth indexes es root x known below (out-Part Stored root) refl is)
 
     -- ---- a part without a record
 

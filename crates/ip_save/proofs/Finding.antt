@@ -2,7 +2,7 @@
 --     lost_later      what failed behind a call that only looked
 --     first_there, entry_there, directory_there      the other tree's root, and what an entry refers to, lie in the records
 --     held_lost      a record of the other tree was not read
---     held_later, lost_result, directory_later      behind a look-up.      one_found, none_found      one more, and none.      empty      a list of none
+--     held_later, lost_result, directory_later      behind a look-up.      one_found, none_found      one more, and none.      root_none      none below a root.      empty      a list of none
 --     SoFar, none_yet, one_more, failed, all_found      a directory's entries, one after the other
 use Rattle.std.proofs.Common.{◌≡◌, ℕ, ◌+◌, ◌≤◌, arith, List, [], ◌∷◌, ◌++◌, append_assoc, length, refl, sym, ap, subst, ◌∙◌, Option, Some, None, Bool, true, false}
 use Rattle.std.specs.Prelude.{Result, Ok, Err, IfOk, IfErr, IsTrue, MatchResult, ◌==◌, if◌then◌else◌}
@@ -22,7 +22,7 @@ use Rattle.ip_spec.specs.View.{View}
 use Rattle.ip_spec.specs.declared.record.Record.{Record}
 use Rattle.ip_spec.specs.declared.record.Ref.{Ref}
 use Rattle.ip_shape.specs.declared.part.Part.{Part}
-use Rattle.ip_tree.specs.Node.{Node, Nodes, stored, contents, directory, none, first}
+use Rattle.ip_tree.specs.Node.{Node, Nodes, Root, stored, contents, directory, none, first, unread, loaded}
 use Rattle.ip_tree.specs.Reads.{FindsEntry, IsFree, IsOver, Looks, Reaches, contents_at, directory_at}
 use Rattle.ip_tree.specs.declared.node.Stored.{Stored}
 use Rattle.ip_tree.specs.declared.tree.TreeFault.TheVariants as fault
@@ -34,8 +34,9 @@ use Rattle.ip_save.specs.declared.batch.SaveFault.{SaveFault}
 use Rattle.ip_save.specs.declared.batch.SaveFault.TheVariants.{Limit, Space, Fetch, Memory}
 use Rattle.ip_save.specs.declared.fresh.Fresh.{Fresh}
 use Rattle.ip_save.specs.Batches.{IsFirst}
-use Rattle.ip_save.specs.Laid.{IsShort, fresh, fresh_among, longest, longest_among}
-use Rattle.ip_save.specs.Reused.{AreHashed, IsDirectoryThere, IsFound, IsFreeSave, IsFreshFault, IsLost, IsSaveCause, IsThere, again, again_among, as_directory, bytes_in, entry_at, found_in, held_by, reference_in}
+use Rattle.ip_save.specs.Laid.{IsShort, fresh, fresh_among, fresh_root, longest, longest_among, record_of, unless_known}
+use Rattle.ip_save.specs.Reused.{AreHashed, IsDirectoryThere, IsFound, IsFreeSave, IsFreshFault, IsLost, IsSaveCause, IsThere, again, again_among, again_root, as_directory, bytes_in, entry_at, found_in, held_by, reference_in}
+use Rattle.ip_save.proofs.Unless.{unless_map}
 
 -- ---- faults
 
@@ -128,19 +129,22 @@ module _ (tells : Bool) (old new : Told) (space now : SpaceView) (looks : Looks 
   lost_result there later on (Ok x) is = tt
   lost_result there later on (Err f) is = lost_later tells old new space now looks 0 0 (omega arith) there later on f is
 
-  pub directory_later : (root : Part Stored) (ns : Nodes) (s : Step) (other below : Option Ref) → (IsTrue tells → IsReadable old space → below ≡ as_directory (entry_at (records_of old space) s other))
+  pub directory_later : (root : Part Stored) (ns : Nodes) → record_of root ≡ None → (s : Step) (other below : Option Ref) → (IsTrue tells → IsReadable old space → below ≡ as_directory (entry_at (records_of old space) s other))
       → (IsTrue tells → (records : ℕ → Option Record) → IsOver old space records → IsDirectoryThere records other → IsDirectoryThere records below) → (before after : List Fresh) → (result : Result (Unit {0}) SaveFault)
       → MatchResult result (λ u. IsFound tells new now (fresh_among ns) (λ records. again_among records ns below) before after) (IsLost tells new now (longest_among ns) (λ records. IsDirectoryThere records below))
-      → MatchResult result (λ u. IsFound tells old space (fresh_among ns) (λ records. again records (directory root ns) (entry_at records s other)) before after) (IsLost tells old space (longest_among ns) (λ records. IsDirectoryThere records other))
-  directory_later root ns s other below is there before after (Ok u) found = record {
-    bytes = found.bytes;
-    found = λ t readable. found.found t ((looks.reads t).readable readable)
-        ∙ ap (λ l. found_in before ++ l) (among_later tells old new space now looks t readable ns below (as_directory (entry_at (records_of old space) s other)) (is t readable));
-    hashed = found.hashed;
-    short = found.short;
-  }
-  directory_later root ns s other below is there before after (Err f) lost =
-      lost_later tells old new space now looks (longest_among ns) (longest_among ns) (omega arith) (λ records. IsDirectoryThere records other) (λ records. IsDirectoryThere records below) there f lost
+      → MatchResult result (λ u. IsFound tells old space (fresh (directory root ns)) (λ records. again records (directory root ns) (entry_at records s other)) before after)
+      (IsLost tells old space (longest (directory root ns)) (λ records. IsDirectoryThere records other))
+  directory_later root ns whole s other below is there before after (Ok u) found =
+      subst (λ o. IsFound tells old space (unless_known o [] (fresh_among ns)) (λ records. unless_known o [] (again_among records ns (as_directory (entry_at records s other)))) before after) (sym whole) record {
+        bytes = found.bytes;
+        found = λ t readable. found.found t ((looks.reads t).readable readable)
+            ∙ ap (λ l. found_in before ++ l) (among_later tells old new space now looks t readable ns below (as_directory (entry_at (records_of old space) s other)) (is t readable));
+        hashed = found.hashed;
+        short = found.short;
+      }
+  directory_later root ns whole s other below is there before after (Err f) lost =
+      subst (λ o. IsLost tells old space (unless_known o 0 (longest_among ns)) (λ records. IsDirectoryThere records other) f) (sym whole)
+      (lost_later tells old new space now looks (longest_among ns) (longest_among ns) (omega arith) (λ records. IsDirectoryThere records other) (λ records. IsDirectoryThere records below) there f lost)
 
 -- ---- one more
 
@@ -166,7 +170,9 @@ mutual
   as_many : (records : ℕ → Option Record) (n : Node) (other : Option Ref) → length (again records n other) ≡ length (fresh n)
   as_many records (stored x) other = refl
   as_many records (contents b) other = refl
-  as_many records (directory root ns) other = among_many records ns (as_directory other)
+  as_many records (directory root ns) other =
+      unless_map (λ (l : List (Option ℕ)). length l) (record_of root) [] (again_among records ns (as_directory other)) ∙ ap (unless_known (record_of root) 0) (among_many records ns (as_directory other))
+      ∙ sym (unless_map (λ (l : List Bytes). length l) (record_of root) [] (fresh_among ns))
 
   among_many : (records : ℕ → Option Record) (ns : Nodes) (dir : Option Ref) → length (again_among records ns dir) ≡ length (fresh_among ns)
   among_many records none dir = refl
@@ -175,9 +181,18 @@ mutual
       let rest = among_many records ns dir in
       omega (arith, one, rest, long_append (again records n (entry_at records s dir)) (again_among records ns dir), long_append (fresh n) (fresh_among ns))
 
+root_many : (records : ℕ → Option Record) (root : Root) (other : Option Ref) → length (again_root records root other) ≡ length (fresh_root root)
+root_many records (unread r) other = refl
+root_many records (loaded root ns) other =
+    unless_map (λ (l : List (Option ℕ)). length l) (record_of root) [] (again_among records ns other) ∙ ap (unless_known (record_of root) 0) (among_many records ns other)
+    ∙ sym (unless_map (λ (l : List Bytes). length l) (record_of root) [] (fresh_among ns))
+
 pub empty : {A : Type 0} (xs : List A) → length xs ≡ 0 → xs ≡ []
 empty [] e = refl
 empty (x ∷ xs) e = absurd (omega (arith, e))
+
+pub root_none : (records : ℕ → Option Record) (root : Root) (other : Option Ref) → fresh_root root ≡ [] → again_root records root other ≡ []
+root_none records root other is = empty (again_root records root other) (root_many records root other ∙ ap (λ (l : List Bytes). length l) is)
 
 pub none_found : (tells : Bool) (told : Told) (space : SpaceView) (n : Node) (s : Step) (other : Option Ref) (before : List Fresh) → fresh n ≡ [] → IsFound tells told space (fresh n) (λ records. again records n (entry_at records s other)) before before
 none_found tells told space n s other before e = record {

@@ -2,6 +2,8 @@ mod Bounds
 mod Rising
 mod Indexes
 mod Rests
+mod Unless
+pub mod Hashes
 mod Tallies
 mod Laying
 mod Rows

@@ -25,7 +25,7 @@ use Rattle.ip_tree.specs.declared.tree.Tree as code
 use Rattle.ip_save.specs.declared.batch.SaveFault.{SaveFault}
 use Rattle.ip_save.specs.declared.batch.SaveFault.TheVariants.{Limit, Space, Fetch, Memory}
 use Rattle.ip_save.specs.Batches.{HasShortContents, IsSaveFault}
-use Rattle.ip_save.specs.Laid.{IsCause, IsRootFault, behind_bytes, breadth, breadth_among, breadth_root, count_of, fresh, fresh_among, fresh_root, lay_root, longest, longest_among, longest_root}
+use Rattle.ip_save.specs.Laid.{IsCause, IsRootFault, behind_bytes, breadth, breadth_among, breadth_root, count_of, fresh, fresh_among, fresh_root, lay_root, longest, longest_among, longest_root, record_of, unless_known}
 use Rattle.ip_save.specs.Reused.{IsFreeSave, IsFreshFault}
 use Rattle.ip_save.proofs.Agreeing.{shape_count}
 use Rattle.ip_save.proofs.News.{fresh_values_root, news_root, value_of}
@@ -48,7 +48,11 @@ mutual
   longest_within : (n : Node) (m : ℕ) → AllByRecursion (IsWithin m) (fresh n) → longest n ≤ m
   longest_within (stored x) m each = omega arith
   longest_within (new_contents b) m each = each.0
-  longest_within (directory root ns) m each = among_within ns m each
+  longest_within (directory root ns) m each = by (record_of root) each (λ below. among_within ns m below)
+    where
+      by : (o : Option Stored) → AllByRecursion (IsWithin m) (unless_known o [] (fresh_among ns)) → (AllByRecursion (IsWithin m) (fresh_among ns) → longest_among ns ≤ m) → unless_known o 0 (longest_among ns) ≤ m
+      by (Some x) below low = omega arith
+      by None below low = low below
 
   among_within : (ns : Nodes) (m : ℕ) → AllByRecursion (IsWithin m) (fresh_among ns) → longest_among ns ≤ m
   among_within none m each = omega arith
@@ -59,7 +63,7 @@ mutual
 
 root_within : (root : Root) (m : ℕ) → AllByRecursion (IsWithin m) (fresh_root root) → longest_root root ≤ m
 root_within (unread r) m each = omega arith
-root_within (loaded root ns) m each = among_within ns m each
+root_within (loaded root ns) m each = longest_within (directory root ns) m each
 
 values_short : (v : View) → HasShortContents v.map → (xs : List (Path × Bytes)) → AllByRecursion (IsNew v) xs → AllByRecursion (IsWithin contents_limit) (map value_of xs)
 values_short v short [] each = tt

@@ -1,9 +1,9 @@
 -- The contents of a tree that no record is known to hold, by its nodes.
 --     news n      each with its path.      fresh_values      their bytes
 --     kept P es      those whose paths pass a test
---     nothing_new      below what was not read there are none.      news_of, news_of_root      they are the contents whose paths no record is known for
+--     Quiet known t      contents below a path that is known are known.      nothing_new      below what was not read there are no new ones.      news_of, news_of_root      they are the contents whose paths no record is known for
 use Rattle.std.proofs.Common.{◌≡◌, ℕ, ◌+◌, zero, suc, List, [], ◌∷◌, ◌++◌, length, refl, sym, ap, subst, ◌∙◌, Option, Some, None, Bool, true, false, cond, map, T, arith}
-use Rattle.std.specs.Prelude.{is_none, is_some, filter, ◌||◌, ◌&&◌, IsSomeAnd, option_map}
+use Rattle.std.specs.Prelude.{is_none, is_some, filter, ◌||◌, ◌&&◌, IsFalse, IsSomeAnd, option_map}
 use Rattle.std.specs.Cmp.Lexicographic.{nat_list_cmp_total}
 use Rattle.std.specs.Option.{option_and_then}
 use Rattle.std.specs.Ordering.{is_eq}
@@ -15,7 +15,7 @@ use Rattle.ip_spec.specs.Path.{Bytes, Step, Path, bytes_cmp, path_cmp, same_byte
 use Rattle.ip_spec.specs.declared.record.Record.{Record}
 use Rattle.ip_spec.specs.declared.record.LeafEntry.{LeafEntry}
 use Rattle.ip_spec.specs.declared.record.Ref.{Ref}
-use Rattle.ip_spec.specs.Tree.{Tree, contents, entries_of, tree_runs}
+use Rattle.ip_spec.specs.Tree.{Tree, contents, entries_of, is_contents, tree_runs}
 use Rattle.ip_spec.specs.Shape.{Entries, deepest, part}
 use Rattle.ip_spec.specs.StoredParts.{entry_at, entry_through, part_at, stored_at, stored_by, stored_part}
 use Rattle.ip_spec.specs.TreeAt.{PartAt}
@@ -24,27 +24,29 @@ use Rattle.ip_spec.proofs.TreeLaws.{path_total}
 use Rattle.ip_spec.proofs.Subtrees.{same_bytes_turned, step_itself, get-contents}
 use Rattle.ip_spec.proofs.SameDirectory.{get-below}
 use Rattle.ip_spec.proofs.Naming.{Member, here, there, member_found}
-use Rattle.ip_shape.specs.Loaded.{behind, is_under, unread_in, way, way_to}
+use Rattle.ip_shape.specs.Loaded.{behind, is_under, known_here, unread_here, unread_in, way, way_to}
 use Rattle.ip_shape.specs.Shape.{has}
-use Rattle.ip_shape.specs.declared.part.Part.{Part}
+use Rattle.ip_shape.specs.declared.part.Part.{Part, out-Part}
+use Rattle.ip_shape.specs.declared.part.Part.TheOpen.{Part-F, Leaf, Inode, Unread}
 use Rattle.ip_shape.proofs.LeafRead.{on_way}
 use Rattle.ip_shape.proofs.Members.{has-filter}
 use Rattle.ip_tree.specs.Node.{Node, Nodes, Root, stored, contents as new_contents, directory, none, first, unread, loaded, steps_in}
 use Rattle.ip_tree.specs.Meaning.{HasSteps, KnowsParts, NodeIs, NodesAre, RootIs, StoredIs, contents_in, directory_in, is_read, steps_of}
-use Rattle.ip_tree.specs.Known.{below_entry, below_unread, known_among, known_at, known_of, unread_entry}
+use Rattle.ip_tree.specs.Known.{below_entry, below_unread, known_among, known_at, known_by, known_of, known_part, offset_of, unread_entry}
 use Rattle.ip_tree.specs.Reads.{FindsEntry, stored_of_entry}
 use Rattle.ip_tree.specs.declared.node.Stored.{Stored}
 use Rattle.ip_tree.proofs.Indexes.{first_unread, no_some, some_same}
 use Rattle.ip_tree.proofs.PartEntries.{part_found}
 use Rattle.ip_tree.proofs.PartLookups.{through}
-use Rattle.ip_save.specs.Laid.{fresh, fresh_among, fresh_root}
+use Rattle.ip_save.specs.Laid.{fresh, fresh_among, fresh_root, record_in, record_of, unless_known}
+use Rattle.ip_save.proofs.Unless.{unless_map}
 use Rattle.ip_save.proofs.Split.{under, below_entries, both_first, both_second, less_of, split}
 
 abbrev mutual
   pub news : Node → List (Path × Bytes)
   news (stored x) = []
   news (new_contents b) = ([], b) ∷ []
-  news (directory root ns) = news_among ns
+  news (directory root ns) = unless_known (record_of root) [] (news_among ns)
 
   pub news_among : Nodes → List (Path × Bytes)
   news_among none = []
@@ -52,7 +54,7 @@ abbrev mutual
 
 abbrev pub news_root : Root → List (Path × Bytes)
 news_root (unread r) = []
-news_root (loaded root ns) = news_among ns
+news_root (loaded root ns) = news (directory root ns)
 
 abbrev pub value_of : Path × Bytes → Bytes
 value_of e = e.1
@@ -65,7 +67,7 @@ mutual
   pub fresh_values : (n : Node) → map value_of (news n) ≡ fresh n
   fresh_values (stored x) = refl
   fresh_values (new_contents b) = refl
-  fresh_values (directory root ns) = fresh_values_among ns
+  fresh_values (directory root ns) = unless_map (map value_of) (record_of root) [] (news_among ns) ∙ ap (unless_known (record_of root) []) (fresh_values_among ns)
 
   pub fresh_values_among : (ns : Nodes) → map value_of (news_among ns) ≡ fresh_among ns
   fresh_values_among none = refl
@@ -75,7 +77,7 @@ mutual
 
 pub fresh_values_root : (root : Root) → map value_of (news_root root) ≡ fresh_root root
 fresh_values_root (unread r) = refl
-fresh_values_root (loaded root ns) = fresh_values_among ns
+fresh_values_root (loaded root ns) = fresh_values (directory root ns)
 
 -- ---- those whose paths pass a test
 
@@ -119,6 +121,24 @@ same_later P Q s same (x ∷ xs) below =
     ∙ ap (λ l. l ++ kept P (below_entries xs)) (same_under P Q x.0 (λ p. same x.0 p (apart_later s s xs x below)) x.1.entries)
     ∙ ap (λ l. kept Q (map (under x.0) x.1.entries) ++ l) (same_later P Q s same xs (both_second _ _ below))
     ∙ sym (kept_append Q (map (under x.0) x.1.entries) (below_entries xs))
+
+apart_member : (s : Step) (xs : Entries) (y : Step × Tree) → T (below_all bytes_cmp s xs) → Member y xs → same_bytes y.0 s ≡ false
+apart_member s [] y below m = elim m [ ]
+apart_member s (x ∷ xs) y below here = apart_later s s xs x below
+apart_member s (x ∷ xs) y below (there m) = apart_member s xs y (both_second _ _ below) m
+
+-- ---- below what is known
+
+-- contents below a path that is known are known
+abbrev pub Quiet : (Path → Option ℕ) → Tree → Type 0
+Quiet known t = (above : Path) (s : Step) (below : Path) → is_some (known above) ≡ true → is_some (get t (above ++ s ∷ below)) ≡ true → is_some (known (above ++ s ∷ below)) ≡ true
+
+same_quiet : (f g : Path → Option ℕ) (t : Tree) → ((p : Path) → f p ≡ g p) → Quiet f t → Quiet g t
+same_quiet f g t same quiet above s below some stands = sym (ap is_some (same (above ++ s ∷ below))) ∙ quiet above s below (ap is_some (same above) ∙ some) stands
+
+not_none : (o : Option ℕ) → is_some o ≡ true → is_none o ≡ false
+not_none None e = absurd (false≢true e)
+not_none (Some x) e = refl
 
 -- ---- what was not read
 
@@ -252,6 +272,7 @@ module _ (records : ℕ → Option Record) where
     steps : steps_in ns ≡ filter (is_read root) (steps_of xs)
     found : (x : Step × Tree) → Member x xs → find bytes_cmp x.0 all ≡ Some x.1
     old : (x : Step × Tree) → Member x xs → is_read root x.0 ≡ false → (p : Path) (b : Bytes) → get x.1 p ≡ Some b → is_none (other x.0 p) ≡ false
+    quiet : (x : Step × Tree) → Member x xs → Quiet (among other ns x.0) x.1
     sorted : T (is_sorted bytes_cmp xs)
 
   module _ (root : Part Stored) (other : Step → Path → Option ℕ) (all : Entries) where
@@ -261,6 +282,7 @@ module _ (records : ℕ → Option Record) where
       steps = are.steps ∙ ap (λ b. cond b (x.0 ∷ filter (is_read root) (steps_of xs)) (filter (is_read root) (steps_of xs))) shut;
       found = λ y m. are.found y (there m);
       old = λ y m. are.old y (there m);
+      quiet = λ y m. are.quiet y (there m);
       sorted = both_second _ _ are.sorted;
     }
 
@@ -289,7 +311,7 @@ module _ (records : ℕ → Option Record) where
     taken t n ns x xs seen are = are.steps ∙ ap (λ b. cond b (x.0 ∷ filter (is_read root) (steps_of xs)) (filter (is_read root) (steps_of xs))) seen
 
     one : (t : Step) (n : Node) (ns : Nodes) (x : Step × Tree) (xs : Entries) → is_read root x.0 ≡ true → AreEntries root other all (first t n ns) (x ∷ xs) → IsSomeAnd (find bytes_cmp t all) (λ sub. NodeIs records n sub)
-        → (NodeIs records n x.1 → kept (is_new n) x.1.entries ≡ news n) → (AreEntries root other all ns xs → kept (is_new_among other ns) (below_entries xs) ≡ news_among ns)
+        → (NodeIs records n x.1 → Quiet (λ p. known_at records n p []) x.1 → kept (is_new n) x.1.entries ≡ news n) → (AreEntries root other all ns xs → kept (is_new_among other ns) (below_entries xs) ≡ news_among ns)
         → kept (is_new_among other (first t n ns)) (below_entries (x ∷ xs)) ≡ news_among (first t n ns)
     one t n ns x xs seen are means own_news later =
         let steps = taken t n ns x xs seen are in
@@ -297,12 +319,17 @@ module _ (records : ℕ → Option Record) where
         let rest : steps_in ns ≡ filter (is_read root) (steps_of xs) = cc in
         let node : NodeIs records n x.1 = subst (λ o. IsSomeAnd o (λ sub. NodeIs records n sub)) (ap (λ (k : Step). find bytes_cmp k all) same ∙ are.found x here) means in
         let P = is_new_among other (first t n ns) in
+        let low : T (below_all bytes_cmp t xs) = subst (λ (k : Step). T (below_all bytes_cmp k xs)) (sym same) (both_first _ _ are.sorted) in
+        let own_quiet : Quiet (λ p. known_at records n p []) x.1 =
+        same_quiet (among other (first t n ns) x.0) (λ p. known_at records n p []) x.1 (λ p. ap (λ b. cond b (known_at records n p []) (among other ns x.0 p)) (same_of x.0 t (sym same))) (are.quiet x here) in
+        let later_quiet : (y : Step × Tree) → Member y xs → Quiet (among other ns y.0) y.1 =
+        (λ y m. same_quiet (among other (first t n ns) y.0) (among other ns y.0) y.1 (λ p. ap (λ b. cond b (known_at records n p []) (among other ns y.0 p)) (apart_member t xs y low m)) (are.quiet y (there m))) in
         kept_append P (map (under x.0) x.1.entries) (below_entries xs)
         ∙ ap (λ l. l ++ kept P (below_entries xs)) (kept_under P (is_new n) x.0 t (sym same) (λ p. first_among other t n ns x.0 p (same_of x.0 t (sym same))) x.1.entries)
-        ∙ ap (λ l. map (under t) l ++ kept P (below_entries xs)) (own_news node)
+        ∙ ap (λ l. map (under t) l ++ kept P (below_entries xs)) (own_news node own_quiet)
         ∙ ap (λ l. map (under t) (news n) ++ l)
-        (same_later P (is_new_among other ns) t (λ r p apart. later_among other t n ns r p apart) xs (subst (λ (k : Step). T (below_all bytes_cmp k xs)) (sym same) (both_first _ _ are.sorted))
-        ∙ later record { steps = rest; found = λ y m. are.found y (there m); old = λ y m. are.old y (there m); sorted = both_second _ _ are.sorted })
+        (same_later P (is_new_among other ns) t (λ r p apart. later_among other t n ns r p apart) xs low
+        ∙ later record { steps = rest; found = λ y m. are.found y (there m); old = λ y m. are.old y (there m); quiet = later_quiet; sorted = both_second _ _ are.sorted })
 
   -- paths below a directory have steps
   only_below : (root : Part Stored) (ns : Nodes) (xs : Entries) → kept (is_new (directory root ns)) (below_entries xs) ≡ kept (is_new_among (λ s p. below_unread records root s p []) ns) (below_entries xs)
@@ -316,10 +343,13 @@ module _ (records : ℕ → Option Record) where
       ∙ sym (kept_append Q (map (under x.0) x.1.entries) (below_entries xs))
 
   all_entries : (root : Part Stored) (ns : Nodes) (t : Tree) → HasSteps root (steps_in ns) (entries_of t).entries → KnowsParts records root (entries_of t).entries
-      → AreEntries root (λ s p. below_unread records root s p []) (entries_of t).entries ns (entries_of t).entries
-  all_entries root ns t steps known = record {
+      → Quiet (λ p. known_at records (directory root ns) p []) t → AreEntries root (λ s p. below_unread records root s p []) (entries_of t).entries ns (entries_of t).entries
+  all_entries root ns t steps known quiet = record {
     steps = steps.held;
     found = λ x m. member_found bytes_cmp nat_list_cmp_total (entries_of t).entries x (entries_of t).sorted m;
+    quiet = λ x m above s below some stands.
+        quiet (x.0 ∷ above) s below some
+        (ap is_some (get-below t x.0 (above ++ s ∷ below) ∙ ap (option_and_then (λ (sub : Tree). get sub (above ++ s ∷ below))) (member_found bytes_cmp nat_list_cmp_total (entries_of t).entries x (entries_of t).sorted m)) ∙ stands);
     old = λ x m shut p b stands. unread_old root (entries_of t).entries known x.0 x.1 p b shut (member_found bytes_cmp nat_list_cmp_total (entries_of t).entries x (entries_of t).sorted m) stands;
     sorted = (entries_of t).sorted;
   }
@@ -328,24 +358,57 @@ module _ (records : ℕ → Option Record) where
   no_first x ys root other all seen are =
       let e : [] ≡ x.0 ∷ filter (is_read root) (steps_of ys) = are.steps ∙ ap (λ b. cond b (x.0 ∷ filter (is_read root) (steps_of ys)) (filter (is_read root) (steps_of ys))) seen in cc
 
+  -- below a directory that a record is known to spell
+  whole_known : (root : Part Stored) (x : Stored) → record_of root ≡ Some x → is_some (known_part records root []) ≡ true
+  whole_known root x e = by (out-Part Stored root) e
+    where
+      by : (l : Part-F Stored (Part Stored)) → record_in l ≡ Some x → is_some (known_by records (known_here l) (unread_here l)) ≡ true
+      by (Leaf k steps) f = ap (λ (o : Option Stored). is_some (known_by records o None)) f
+      by (Inode k n cs) f = ap (λ (o : Option Stored). is_some (known_by records o None)) f
+      by (Unread y n) f = refl
+
+  all_known : (root : Part Stored) (ns : Nodes) (t : Tree) → is_some (known_part records root []) ≡ true → Quiet (λ p. known_at records (directory root ns) p []) t → (xs : Entries)
+      → ((x : Step × Tree) → Member x xs → find bytes_cmp x.0 (entries_of t).entries ≡ Some x.1) → kept (is_new (directory root ns)) (below_entries xs) ≡ []
+  all_known root ns t some quiet [] found = refl
+  all_known root ns t some quiet (x ∷ xs) found =
+      let P = is_new (directory root ns) in
+      kept_append P (map (under x.0) x.1.entries) (below_entries xs)
+      ∙ ap (λ l. l ++ kept P (below_entries xs))
+      (kept_out P x.0 x.1.entries
+      (λ e m. not_none (known_at records (directory root ns) (x.0 ∷ e.0) [])
+      (quiet [] x.0 e.0 some
+      (ap is_some (get-below t x.0 e.0 ∙ ap (option_and_then (λ (sub : Tree). get sub e.0)) (found x here) ∙ member_found path_cmp path_total x.1.entries e x.1.sorted m)))))
+      ∙ all_known root ns t some quiet xs (λ y m. found y (there m))
+
+  directory_news : (root : Part Stored) (ns : Nodes) (t : Tree) → IsFalse (is_contents t) → Quiet (λ p. known_at records (directory root ns) p []) t
+      → kept (is_new_among (λ s p. below_unread records root s p []) ns) (below_entries (entries_of t).entries) ≡ news_among ns → kept (is_new (directory root ns)) t.entries ≡ news (directory root ns)
+  directory_news root ns t some quiet rest = by (record_of root) refl
+    where
+      by : (o : Option Stored) → record_of root ≡ o → kept (is_new (directory root ns)) t.entries ≡ unless_known o [] (news_among ns)
+      by (Some x) e =
+          ap (kept (is_new (directory root ns))) (split t some)
+          ∙ all_known root ns t (whole_known root x e) quiet (entries_of t).entries (λ y m. member_found bytes_cmp nat_list_cmp_total (entries_of t).entries y (entries_of t).sorted m)
+      by None e = ap (kept (is_new (directory root ns))) (split t some) ∙ only_below root ns (entries_of t).entries ∙ rest
+
   mutual
-    pub news_of : (n : Node) (t : Tree) → NodeIs records n t → kept (is_new n) t.entries ≡ news n
-    news_of (stored x) t is = stored_old x t is
-    news_of (new_contents b) t is = ap (λ (x : Tree). kept (is_new (new_contents b)) x.entries) is ∙ ap (kept (is_new (new_contents b))) (entries_of_bytes b)
-    news_of (directory root ns) t is =
-        ap (kept (is_new (directory root ns))) (split t is.0.directory) ∙ only_below root ns (entries_of t).entries
-        ∙ news_of_among ns root (λ s p. below_unread records root s p []) (entries_of t).entries is.3 (entries_of t).entries (all_entries root ns t is.1 is.2)
+    pub news_of : (n : Node) (t : Tree) → NodeIs records n t → Quiet (λ p. known_at records n p []) t → kept (is_new n) t.entries ≡ news n
+    news_of (stored x) t is quiet = stored_old x t is
+    news_of (new_contents b) t is quiet = ap (λ (x : Tree). kept (is_new (new_contents b)) x.entries) is ∙ ap (kept (is_new (new_contents b))) (entries_of_bytes b)
+    news_of (directory root ns) t is quiet =
+        directory_news root ns t is.0.directory quiet
+        (news_of_among ns root (λ s p. below_unread records root s p []) (entries_of t).entries is.3 (entries_of t).entries (all_entries root ns t is.1 is.2 quiet))
 
     news_of_among : (ns : Nodes) (root : Part Stored) (other : Step → Path → Option ℕ) (all : Entries) → NodesAre records ns all → (xs : Entries) → AreEntries root other all ns xs → kept (is_new_among other ns) (below_entries xs) ≡ news_among ns
     news_of_among none root other all means xs are =
         skip root other all none [] (λ e. refl) (λ x ys seen are. absurd (no_first x ys root other all seen are)) xs are
     news_of_among (first t n ns) root other all means xs are =
         skip root other all (first t n ns) (news_among (first t n ns)) (λ e. absurd (cc e))
-        (λ x ys seen are. one root other all t n ns x ys seen are means.0 (λ is. news_of n x.1 is) (λ rest. news_of_among ns root other all means.1 ys rest)) xs are
+        (λ x ys seen are. one root other all t n ns x ys seen are means.0 (λ is quiet. news_of n x.1 is quiet) (λ rest. news_of_among ns root other all means.1 ys rest)) xs are
 
   -- of a root
-  pub news_of_root : (root : Root) (t : Tree) → RootIs records root t → kept (λ p. is_none (known_of records root (record { path = p; indexes = [] }))) t.entries ≡ news_root root
-  news_of_root (unread r) t is = nothing_new r t is.1.part
-  news_of_root (loaded root ns) t is =
-      ap (kept (is_new (directory root ns))) (split t is.directory) ∙ only_below root ns (entries_of t).entries
-      ∙ news_of_among ns root (λ s p. below_unread records root s p []) (entries_of t).entries is.nodes (entries_of t).entries (all_entries root ns t is.steps is.parts)
+  pub news_of_root : (root : Root) (t : Tree) → RootIs records root t → Quiet (λ p. known_of records root (record { path = p; indexes = [] })) t
+      → kept (λ p. is_none (known_of records root (record { path = p; indexes = [] }))) t.entries ≡ news_root root
+  news_of_root (unread r) t is quiet = nothing_new r t is.1.part
+  news_of_root (loaded root ns) t is quiet =
+      directory_news root ns t is.directory quiet
+      (news_of_among ns root (λ s p. below_unread records root s p []) (entries_of t).entries is.nodes (entries_of t).entries (all_entries root ns t is.steps is.parts quiet))

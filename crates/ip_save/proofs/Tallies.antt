@@ -1,9 +1,9 @@
 -- What lies below directories that were loaded, by their tallies.
 --     whole      a list begins with itself.      own_first, own_behind      where it begins with those of nodes: those of the first, and those behind
---     new_first, inside_first, behind_own      of a directory, whose tally is the first.      inside_root      of a tree
+--     new_first, open_first, inside_first, behind_own      of a directory, whose tally is the first.      begins_root, inside_root, open_root, none_root      of a tree
 --     tallied_new, tallied_more      one more node is counted.      tallied_count, tallied_own      a directory's tally is put in its place
 --     found_tallies      the tallies of what stands at a step
-use Rattle.std.proofs.Common.{◌≡◌, ℕ, ◌+◌, List, [], ◌∷◌, ◌++◌, append_assoc, length, drop, set, refl, sym, ap, ◌∙◌, arith, Some, Bool, true, false, cond}
+use Rattle.std.proofs.Common.{◌≡◌, ℕ, ◌+◌, List, [], ◌∷◌, ◌++◌, append_assoc, length, drop, set, refl, sym, ap, subst, ◌∙◌, arith, Option, Some, None, Bool, true, false, cond}
 use Rattle.std.specs.Prelude.{is_some, unwrap_or}
 use Rattle.std.specs.FinMap.Entries.{find}
 use Rattle.std.proofs.lemmas.Bool.{false≢true}
@@ -15,8 +15,10 @@ use Rattle.ip_tree.specs.Shown.{shown}
 use Rattle.ip_tree.specs.declared.node.Node as declared
 use Rattle.ip_tree.specs.declared.node.Stored.{Stored}
 use Rattle.ip_save.specs.declared.tally.Tally.{Tally}
-use Rattle.ip_save.specs.Laid.{BeginsWith, behind_first, fresh, fresh_among, new_in, tallies, tallies_among, tallies_in, tallies_root}
+use Rattle.ip_save.specs.Laid.{BeginsWith, behind_first, fresh, fresh_among, fresh_root, new_in, no_tally, record_of, tallies, tallies_among, tallies_in, tallies_root, unless_known}
+use Rattle.ip_save.proofs.Finding.{empty}
 use Rattle.ip_save.proofs.Rests.{rest_of}
+use Rattle.ip_save.proofs.Unless.{unless_new}
 
 -- ---- lists that begin with tallies
 
@@ -33,17 +35,49 @@ own_behind s n ns all left begins is = record {
 }
 
 module _ (root : Part Stored) (ns : Nodes) (all : List Tally) (begins : BeginsWith (tallies (directory root ns)) all) where
-  pub new_first : new_in all ≡ length (fresh_among ns)
-  new_first = ap new_in begins.is
+  -- its own tally, if no record is known to spell it
+  abbrev own_tally : Tally
+  own_tally = record { new = length (fresh_among ns); directories = length (tallies_among ns) }
 
-  pub inside_first : (inside : List Tally) → inside ≡ drop 1 all → BeginsWith (tallies_among ns) inside
-  inside_first inside is = record { tail = begins.tail; is = is ∙ ap (drop 1) begins.is }
+  abbrev Begins : Option Stored → Type 0
+  Begins known = BeginsWith (unless_known known (no_tally ∷ []) (own_tally ∷ tallies_among ns)) all
+
+  pub new_first : new_in all ≡ length (fresh (directory root ns))
+  new_first = by (record_of root) begins
+    where
+      by : (o : Option Stored) → Begins o → new_in all ≡ length (unless_known o [] (fresh_among ns))
+      by (Some x) here = ap new_in here.is
+      by None here = ap new_in here.is
+
+  -- where there is something new no record is known
+  pub open_first : (new_in all ≡ 0 → ⊥) → record_of root ≡ None
+  open_first some = by (record_of root) begins
+    where
+      by : (o : Option Stored) → Begins o → o ≡ None
+      by (Some x) here = absurd (some (ap new_in here.is))
+      by None here = refl
+
+  pub inside_first : record_of root ≡ None → (inside : List Tally) → inside ≡ drop 1 all → BeginsWith (tallies_among ns) inside
+  inside_first new inside is = let here : Begins None = subst Begins new begins in record { tail = here.tail; is = is ∙ ap (drop 1) here.is }
 
   pub behind_own : behind_first all ≡ drop (length (tallies (directory root ns))) all
-  behind_own = ap behind_first begins.is ∙ sym (ap (drop (length (tallies (directory root ns)))) begins.is)
+  behind_own = by (record_of root) begins
+    where
+      by : (o : Option Stored) → Begins o → behind_first all ≡ drop (length (unless_known o (no_tally ∷ []) (own_tally ∷ tallies_among ns))) all
+      by (Some x) here = ap behind_first here.is ∙ sym (ap (drop 1) here.is)
+      by None here = ap behind_first here.is ∙ sym (ap (drop (length (own_tally ∷ tallies_among ns))) here.is)
 
-pub inside_root : (part : Part Stored) (ns : Nodes) (root : Root) (ahead inside : List Tally) → root ≡ loaded part ns → ahead ≡ tallies_root root → inside ≡ drop 1 ahead → BeginsWith (tallies_among ns) inside
-inside_root part ns root ahead inside is own rest = inside_first part ns ahead (whole (tallies (directory part ns)) ahead (own ∙ ap tallies_root is)) inside rest
+pub begins_root : (part : Part Stored) (ns : Nodes) (root : Root) (ahead : List Tally) → root ≡ loaded part ns → ahead ≡ tallies_root root → BeginsWith (tallies (directory part ns)) ahead
+begins_root part ns root ahead is own = whole (tallies (directory part ns)) ahead (own ∙ ap tallies_root is)
+
+pub inside_root : (part : Part Stored) (ns : Nodes) (root : Root) (ahead inside : List Tally) → root ≡ loaded part ns → ahead ≡ tallies_root root → (new_in ahead ≡ 0 → ⊥) → inside ≡ drop 1 ahead → BeginsWith (tallies_among ns) inside
+inside_root part ns root ahead inside is own some rest = let here = begins_root part ns root ahead is own in inside_first part ns ahead here (open_first part ns ahead here some) inside rest
+
+pub open_root : (part : Part Stored) (ns : Nodes) (root : Root) (ahead : List Tally) → root ≡ loaded part ns → ahead ≡ tallies_root root → (new_in ahead ≡ 0 → ⊥) → record_of part ≡ None
+open_root part ns root ahead is own some = open_first part ns ahead (begins_root part ns root ahead is own) some
+
+pub none_root : (part : Part Stored) (ns : Nodes) (root : Root) (ahead : List Tally) → root ≡ loaded part ns → ahead ≡ tallies_root root → new_in ahead ≡ 0 → fresh_root root ≡ []
+none_root part ns root ahead is own none = ap fresh_root is ∙ empty (fresh (directory part ns)) (sym (new_first part ns ahead (begins_root part ns root ahead is own)) ∙ none)
 
 -- ---- they are counted
 
@@ -57,13 +91,14 @@ pub tallied_count : (before opened longer among : List Tally) (empty : Tally) �
 tallied_count before opened longer among empty pushed more =
     ap (λ (l : List Tally). length l) more ∙ length-append opened among ∙ ap (λ k. k + length among) (ap (λ (l : List Tally). length l) pushed ∙ length-append before (empty ∷ []))
 
-pub tallied_own : (root : Part Stored) (ns : Nodes) (before opened longer : List Tally) (at new directories : ℕ) (empty : Tally) → length before ≡ at → opened ≡ before ++ empty ∷ [] → longer ≡ opened ++ tallies_among ns → new ≡ length (fresh_among ns)
+pub tallied_own : (root : Part Stored) (ns : Nodes) → record_of root ≡ None → (before opened longer : List Tally) (at new directories : ℕ) (empty : Tally) → length before ≡ at → opened ≡ before ++ empty ∷ [] → longer ≡ opened ++ tallies_among ns → new ≡ length (fresh_among ns)
     → directories ≡ length (tallies_among ns) → set longer at (record { new = new; directories = directories }) ≡ before ++ tallies (directory root ns)
-tallied_own root ns before opened longer at new directories empty low pushed more own count =
+tallied_own root ns known before opened longer at new directories empty low pushed more own count =
     ap (λ l. set l at (record { new = new; directories = directories })) (more ∙ ap (λ l. l ++ tallies_among ns) pushed ∙ append_assoc before (empty ∷ []) (tallies_among ns))
     ∙ set_at before empty (tallies_among ns) (record { new = new; directories = directories }) at low
     ∙ ap (λ k. before ++ record { new = k; directories = directories } ∷ tallies_among ns) own
     ∙ ap (λ k. before ++ record { new = length (fresh_among ns); directories = k } ∷ tallies_among ns) count
+    ∙ ap (λ l. before ++ l) (sym (unless_new (record_of root) (no_tally ∷ []) (record { new = length (fresh_among ns); directories = length (tallies_among ns) } ∷ tallies_among ns) known))
 
 -- ---- at a step
 

@@ -19,17 +19,18 @@ use Rattle.ip_shape.specs.declared.part.Part as shape
 use Rattle.ip_shape.proofs.Entries.{has_of}
 use Rattle.ip_shape.proofs.Members.{has-filter}
 use Rattle.ip_shape.proofs.Steps.{equal, same_step}
-use Rattle.ip_tree.specs.Known.{below_unread, known_among, known_at, known_of}
+use Rattle.ip_tree.specs.Known.{below_unread, known_among, known_at, known_of, known_part}
 use Rattle.ip_tree.specs.Meaning.{HasSteps, KnowsParts, NodeIs, NodesAre, RootIs, SpellsPart, StoredIs, contents_in, directory_in, is_read, steps_of}
 use Rattle.ip_tree.specs.Node.{Node, Nodes, Root, stored, contents as new_contents, directory, none, first, unread, loaded, steps_in}
 use Rattle.ip_tree.specs.declared.node.Stored.{Stored}
 use Rattle.ip_tree.proofs.TreeHeights.{directory_height}
-use Rattle.ip_save.specs.Laid.{behind_refs, contents_at, lay, lay_at, lay_root, ref_at}
+use Rattle.ip_save.specs.Laid.{behind_refs, contents_at, lay, lay_at, lay_root, record_of, ref_at}
 use Rattle.ip_save.specs.Reused.{refs_of}
-use Rattle.ip_save.proofs.Agreeing.{Names, NamesPart, Stands, if_false, if_true, part_agrees, spelled_by}
+use Rattle.ip_save.proofs.Agreeing.{Names, NamesPart, Stands, if_false, if_true, part_agrees, part_known, spelled_by}
 use Rattle.ip_save.proofs.Lawful.{child_of_contents, child_of_directory, contents_height, contents_some}
 use Rattle.ip_save.proofs.News.{fresh_values, news, news_among, news_root, value_of, values_under}
 use Rattle.ip_save.proofs.Split.{under}
+use Rattle.ip_save.proofs.Unless.{unless_new}
 
 -- what refers to contents at a path
 abbrev pub ref_for : (Path → ℕ) → Path × Bytes → Stored
@@ -134,15 +135,28 @@ module _ (v : View) (offset : Path → ℕ) where
     spells_from : (x : Stored) (es : Entries) (is : List ℕ) → SpellsPart records (length is) x (part es is) → SpellsPart records (0 + length is) x (part_from 0 es is)
     spells_from x es is spells = let e : length is ≡ 0 + length is = omega arith in subst (λ d. SpellsPart records d x (part es is)) e spells
 
-    directory_agrees : (root : shape.Part Stored) (ns : Nodes) (t : Tree) (h : ℕ) (p : Path) (refs : List Stored) (at : ℕ) → HasSteps root (steps_in ns) (entries_of t).entries → KnowsParts records root (entries_of t).entries → KnownAt p (directory root ns)
+    parts_known : (root : shape.Part Stored) (ns : Nodes) (p : Path) → KnownAt p (directory root ns) → (is : List ℕ) → v.known (record { path = p; indexes = [] ++ is }) ≡ known_part records root is
+    parts_known root ns p known is = ap (λ (q : Path). v.known (record { path = q; indexes = is })) (sym (append-nil p)) ∙ known [] is
+
+    -- one that a record is known to spell
+    whole_agrees : (root : shape.Part Stored) (ns : Nodes) (t : Tree) (h : ℕ) (p : Path) (refs : List Stored) (at : ℕ) (x : Stored) → record_of root ≡ Some x → KnowsParts records root (entries_of t).entries → KnownAt p (directory root ns)
+        → DirectoryAgrees root ns t (suc h) p refs at
+    whole_agrees root ns t h p refs at x whole knows known =
+        let es = (entries_of t).entries in
+        let agrees =
+        part_known v offset (spell_directory v offset h) p (λ s. lay_at ns refs s) records deepest 0 [] es root at x whole (parts_known root ns p known)
+        record { known = λ is x e. spells_from x es is (knows.known is x e).spells; unread = λ is x e. spells_from x es is (knows.unread is x e).spells } in
+        record { spelled = as_part h p t at ∙ agrees.spelled; names = agrees.names }
+
+    new_agrees : (root : shape.Part Stored) (ns : Nodes) (t : Tree) (h : ℕ) (p : Path) (refs : List Stored) (at : ℕ) → HasSteps root (steps_in ns) (entries_of t).entries → KnowsParts records root (entries_of t).entries → KnownAt p (directory root ns)
         → Low (suc h) t → BelowAgrees ns t h p refs → DirectoryAgrees root ns t (suc h) p refs at
-    directory_agrees root ns t h p refs at steps knows known low below =
+    new_agrees root ns t h p refs at steps knows known low below =
         let es = (entries_of t).entries in
         let stands : Stands v offset (spell_directory v offset h) p (λ s. lay_at ns refs s) records deepest 0 [] es root = record {
           sum = refl;
           up = steps.ascend;
           shape = steps.shape;
-          known = λ is. ap (λ (q : Path). v.known (record { path = q; indexes = is })) (sym (append-nil p)) ∙ known [] is;
+          known = parts_known root ns p known;
           below = record { known = λ is x e. spells_from x es is (knows.known is x e).spells; unread = λ is x e. spells_from x es is (knows.unread is x e).spells };
           read = λ s sub found open_way.
               let member : has s (steps_in ns) ≡ true =
@@ -151,6 +165,14 @@ module _ (v : View) (offset : Path → ℕ) where
         } in
         let agrees = part_agrees v offset (spell_directory v offset h) p (λ s. lay_at ns refs s) records deepest 0 [] es root at stands in
         record { spelled = as_part h p t at ∙ agrees.spelled; names = agrees.names }
+
+    directory_agrees : (root : shape.Part Stored) (ns : Nodes) (t : Tree) (h : ℕ) (p : Path) (refs : List Stored) (at : ℕ) → HasSteps root (steps_in ns) (entries_of t).entries → KnowsParts records root (entries_of t).entries → KnownAt p (directory root ns)
+        → Low (suc h) t → (record_of root ≡ None → BelowAgrees ns t h p refs) → DirectoryAgrees root ns t (suc h) p refs at
+    directory_agrees root ns t h p refs at steps knows known low below = by (record_of root) refl
+      where
+        by : (o : Option Stored) → record_of root ≡ o → DirectoryAgrees root ns t (suc h) p refs at
+        by (Some x) is = whole_agrees root ns t h p refs at x is knows known
+        by None new = new_agrees root ns t h p refs at steps knows known low (below new)
 
     -- ---- below
 
@@ -193,9 +215,9 @@ module _ (v : View) (offset : Path → ℕ) where
       one_agrees (directory root ns) t (suc h) p refs at is known are low =
           let d =
           directory_agrees root ns t h p refs at is.1 is.2 known low
-          (λ s sub found there next.
+          (λ new s sub found there next.
           let inner : Low h sub = (let a = entry_height t s sub found in let u = low.under in let k = low.shallow in record { under = omega (arith, a, u); shallow = omega (arith, a, k) }) in
-          nodes_agree ns (entries_of t).entries h p refs is.3 are s sub (λ q w. below_unread records root s q w) (λ q w. known (s ∷ q) w) found there inner next) in
+          nodes_agree ns (entries_of t).entries h p refs is.3 (subst (RefsAt p refs) (unless_new (record_of root) [] (news_among ns) new) are) s sub (λ q w. below_unread records root s q w) (λ q w. known (s ∷ q) w) found there inner next) in
           record {
             spelled = if_false (is_contents t) (there_already (offset p) at) (spell_directory v offset (suc h) p t at) is.0.directory ∙ d.spelled;
             names = record {
@@ -228,9 +250,10 @@ module _ (v : View) (offset : Path → ℕ) where
         let low : Low (suc (height t)) t = record { under = omega arith; shallow = shallow } in
         let d =
         directory_agrees root ns t (height t) [] refs at is.steps is.parts (λ q w. known (record { path = q; indexes = w })) low
-        (λ s sub found there next.
+        (λ new s sub found there next.
         let inner : Low (height t) sub = (let a = entry_height t s sub found in record { under = omega (arith, a); shallow = omega (arith, a, shallow) }) in
-        nodes_agree ns (entries_of t).entries (height t) [] refs is.nodes (subst (λ (l : List Stored). RefsAt [] l (news_among ns)) (sym are) (refs_by (news_among ns))) s sub (λ q w. below_unread records root s q w) (λ q w. known (record { path = s ∷ q; indexes = w })) found there inner next) in
+        nodes_agree ns (entries_of t).entries (height t) [] refs is.nodes
+        (subst (RefsAt [] refs) (unless_new (record_of root) [] (news_among ns) new) (subst (λ (l : List Stored). RefsAt [] l (news (directory root ns))) (sym are) (refs_by (news (directory root ns))))) s sub (λ q w. below_unread records root s q w) (λ q w. known (record { path = s ∷ q; indexes = w })) found there inner next) in
         let high = d.names.high ∙ sym (directory_height t is.directory) in
         record {
           spelled = d.spelled;

@@ -1,8 +1,8 @@
 -- The new contents of a view and the root of its tree, by the nodes, where contents are taken from another tree.
 --     new_contents_are, each_new      the contents that are spelled are some of those of the nodes.      told v first root      what is found for each
 --     refs_for      what refers to each.      root_is      what is spelled for the directories
-use Rattle.std.proofs.Common.{◌≡◌, ℕ, suc, ◌+◌, ◌≤◌, arith, List, [], ◌∷◌, refl, ap, subst, sym, ◌∙◌, Option, Some, None, Bool, true, false, cond, map, T}
-use Rattle.std.specs.Prelude.{is_none, filter}
+use Rattle.std.proofs.Common.{◌≡◌, ℕ, suc, ◌+◌, ◌≤◌, arith, List, [], ◌∷◌, ◌++◌, refl, ap, subst, sym, ◌∙◌, Option, Some, None, Bool, true, false, cond, map, T}
+use Rattle.std.specs.Prelude.{is_none, is_some, filter}
 use Rattle.std.specs.List.{AllByRecursion}
 use Rattle.std.specs.FinMap.Entries.{is_sorted, is_sorted-where_key}
 use Rattle.std.proofs.lemmas.Bool.{false≢true}
@@ -23,7 +23,7 @@ use Rattle.ip_tree.specs.declared.tree.Tree as code
 use Rattle.ip_save.specs.Laid.{size_of, lay_root}
 use Rattle.ip_save.specs.Reused.{places_from, refs_of, spelled_from}
 use Rattle.ip_save.proofs.Lawful.{lawful_height}
-use Rattle.ip_save.proofs.News.{kept, news_of_root, news_root, value_of}
+use Rattle.ip_save.proofs.News.{Quiet, kept, news_of_root, news_root, value_of}
 use Rattle.ip_save.proofs.Placed.{key_of, places, IsNew, placed_are, end_is}
 use Rattle.ip_save.proofs.Reusing.{is_new, told_news, own, spelled_ones, only_new, offset_known, offsets_are, spelled_are, values_told}
 use Rattle.ip_save.proofs.Agreeing.{spelled_by}
@@ -83,8 +83,11 @@ module _ (records : ℕ → Option Record) (tree : code.Tree) (v : View) (is : I
   abbrev fresh_ones : List (Path × Bytes)
   fresh_ones = news_root root
 
+  quiet : Quiet (λ p. known_of records root (whole_part p)) v.map
+  quiet above s below some stands = sym (ap is_some (is.known (whole_part (above ++ s ∷ below)))) ∙ is.below above [] s below refl (ap is_some (is.known (whole_part above)) ∙ some) stands
+
   kept_are : kept (is_new v) v.map.entries ≡ fresh_ones
-  kept_are = kept_same (is_new v) (λ p. is_none (known_of records root (whole_part p))) (λ p. ap is_none (is.known (whole_part p))) v.map.entries ∙ news_of_root records root v.map is.root
+  kept_are = kept_same (is_new v) (λ p. is_none (known_of records root (whole_part p))) (λ p. ap is_none (is.known (whole_part p))) v.map.entries ∙ news_of_root records root v.map is.root quiet
 
   pub each_new : AllByRecursion (IsNew v) fresh_ones
   each_new = subst (AllByRecursion (IsNew v)) kept_are

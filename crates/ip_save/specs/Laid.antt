@@ -1,9 +1,10 @@
 -- What the walks over a lazy tree write and answer, by its nodes alone.
+--     record_of part      the record that spells a part, where one is known.      unless_known      nothing, where there is such a record
 --     fresh n      the new contents, in the order of their paths.      contents_bytes bs      the bytes of their records.      size_of bs      how many these are
---     tallies n      what lies below each directory that was loaded, the first one's own tally first.      tallies_in ns s      of the node at a step
+--     tallies n      what lies below each directory that was loaded and that no record is known to spell, the first one's own tally first; of one with a record no_tally alone.      tallies_in ns s      of the node at a step
 --     new_in ts, behind_first ts      how many new contents the first tally tells, and the tallies behind those of its directory.      BeginsWith front all      these are the first of all
 --     longest n      the greatest length of the new contents.      breadth n      the most entries of a directory that was loaded
---     count_of part      how many entries a part has.      record_of part      the record that spells it, where one is known
+--     count_of part      how many entries a part has
 --     ref_at refs      the first of these references.      behind_refs n refs      those that are left behind a node
 --     lay n refs at      the records of the directories that are to be written, from the offset `at` on, where the first of `refs` refer to the new contents below the node
 --     lay_at ns refs s at      of the node at a step, where they refer to those below the nodes.      start_in ns refs s      those from the step on
@@ -41,13 +42,28 @@ use Rattle.ip_save.specs.declared.batch.SaveFault.TheVariants.{Limit, Space, Fet
 use Rattle.ip_save.specs.declared.starts.Start.{Start}
 use Rattle.ip_save.specs.declared.tally.Tally.{Tally}
 
+-- ---- records that are known
+
+abbrev pub record_in : Part-F Stored (Part Stored) → Option Stored
+record_in (Leaf known steps) = known
+record_in (Inode known n children) = known
+record_in (Unread x n) = Some x
+
+abbrev pub record_of : Part Stored → Option Stored
+record_of part = record_in (out-Part Stored part)
+
+-- of a directory as a whole: below one that a record is known to spell nothing is new
+abbrev pub unless_known : {A : Type 0} → Option Stored → A → A → A
+unless_known (Some x) nothing all = nothing
+unless_known None nothing all = all
+
 -- ---- new contents
 
 abbrev mutual
   pub fresh : Node → List Bytes
   fresh (stored x) = []
   fresh (contents bytes) = bytes ∷ []
-  fresh (directory root ns) = fresh_among ns
+  fresh (directory root ns) = unless_known (record_of root) [] (fresh_among ns)
 
   pub fresh_among : Nodes → List Bytes
   fresh_among none = []
@@ -55,11 +71,14 @@ abbrev mutual
 
 -- ---- tallies
 
+abbrev pub no_tally : Tally
+no_tally = record { new = 0; directories = 0 }
+
 abbrev mutual
   pub tallies : Node → List Tally
   tallies (stored x) = []
   tallies (contents bytes) = []
-  tallies (directory root ns) = record { new = length (fresh_among ns); directories = length (tallies_among ns) } ∷ tallies_among ns
+  tallies (directory root ns) = unless_known (record_of root) (no_tally ∷ []) (record { new = length (fresh_among ns); directories = length (tallies_among ns) } ∷ tallies_among ns)
 
   pub tallies_among : Nodes → List Tally
   tallies_among none = []
@@ -103,7 +122,7 @@ abbrev mutual
   pub longest : Node → ℕ
   longest (stored x) = 0
   longest (contents bytes) = length bytes
-  longest (directory root ns) = longest_among ns
+  longest (directory root ns) = unless_known (record_of root) 0 (longest_among ns)
 
   pub longest_among : Nodes → ℕ
   longest_among none = 0
@@ -179,14 +198,6 @@ behind_leaf row = behind Record.Leaf new_leaf row
 abbrev pub behind_inode : ℕ → LaidRow InodeChild → Laid
 behind_inode depth row = behind (Record.Inode depth) (new_inode depth) row
 
-abbrev pub record_in : Part-F Stored (Part Stored) → Option Stored
-record_in (Leaf known steps) = known
-record_in (Inode known n children) = known
-record_in (Unread x n) = Some x
-
-abbrev pub record_of : Part Stored → Option Stored
-record_of part = record_in (out-Part Stored part)
-
 abbrev pub known_or : Option Stored → ℕ → Laid → Laid
 known_or (Some x) at new = there x at
 known_or None at new = new
@@ -246,11 +257,11 @@ start_in (first t n ns) refs s = cond (same_bytes s t) refs (start_in ns (behind
 
 abbrev pub fresh_root : Root → List Bytes
 fresh_root (unread r) = []
-fresh_root (loaded root ns) = fresh_among ns
+fresh_root (loaded root ns) = fresh (directory root ns)
 
 abbrev pub longest_root : Root → ℕ
 longest_root (unread r) = 0
-longest_root (loaded root ns) = longest_among ns
+longest_root (loaded root ns) = longest (directory root ns)
 
 abbrev pub breadth_root : Root → ℕ
 breadth_root (unread r) = 0

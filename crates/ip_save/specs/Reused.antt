@@ -30,7 +30,7 @@ use Rattle.ip_tree.specs.Reads.{IsCause, IsOver, IsPartRef, Reaches, entry_below
 use Rattle.ip_tree.specs.declared.node.Stored.{Stored}
 use Rattle.ip_tree.specs.declared.tree.TreeFault.{TreeFault}
 use Rattle.ip_tree.specs.declared.tree.TreeFault.TheVariants as fault
-use Rattle.ip_save.specs.Laid.{IsShort, contents_at, size}
+use Rattle.ip_save.specs.Laid.{IsShort, contents_at, record_of, size, unless_known}
 use Rattle.ip_save.specs.declared.batch.SaveFault.{SaveFault}
 use Rattle.ip_save.specs.declared.batch.SaveFault.TheVariants.{Limit, Space, Fetch, Memory}
 use Rattle.ip_save.specs.declared.fresh.Fresh.{Fresh}
@@ -63,7 +63,7 @@ abbrev mutual
   pub again : (ℕ → Option Record) → Node → Option Ref → List (Option ℕ)
   again records (stored x) other = []
   again records (contents b) other = held_by records b other ∷ []
-  again records (directory root ns) other = again_among records ns (as_directory other)
+  again records (directory root ns) other = unless_known (record_of root) [] (again_among records ns (as_directory other))
 
   pub again_among : (ℕ → Option Record) → Nodes → Option Ref → List (Option ℕ)
   again_among records none dir = []
@@ -71,7 +71,7 @@ abbrev mutual
 
 abbrev pub again_root : (ℕ → Option Record) → Root → Option Ref → List (Option ℕ)
 again_root records (unread r) other = []
-again_root records (loaded root ns) other = again_among records ns other
+again_root records (loaded root ns) other = unless_known (record_of root) [] (again_among records ns other)
 
 -- ---- a table of new contents
 

@@ -5,6 +5,7 @@ ghost use Rattle.ip_base.specs.declared.limit.TheConstants.{OFFSET_MAX};
 ghost use Rattle.ip_save.specs.Batches.{AreFields, HasShortContents, IsBatch, IsFirst, IsSaveFault, fields_told};
 ghost use Rattle.ip_save.specs.Reused.{IsSaveCause, IsUnfetched, counted_save};
 ghost use Rattle.ip_spec.specs.declared.record.Record.{Record};
+ghost use Rattle.ip_spec.specs.Record.{IsHash};
 ghost use Rattle.ip_spec.specs.View.{View};
 ghost use Rattle.ip_tree.specs.Reads.{IsOver, Looks};
 ghost use Rattle.ip_tree.specs.TreeView.{IsView};
@@ -95,6 +96,7 @@ impl Batch {
         requires end { end ≤ OFFSET_MAX }
         ensures made { IsTrue G.tells → (records : ℕ → Option Record) (v : View) (other : Option View) → IsOver (G.told outside.old) space.old records → IsView records tree.now v → IsFirst records first other
             → HasShortContents v.map → MatchResult result (IsBatch v other (fields_told fields.now) end) (IsSaveFault v other (fields_told fields.now) end) }
+        ensures is_name { IfOk result (λ batch. IsHash batch.name) }
         ensures some { IfOk result (λ batch. 0 < length batch.bytes.items) }
         ensures placed { IfOk result (λ batch. (end ≤ batch.commit_at) × (batch.commit_at < end + length batch.bytes.items)) }
         ensures looks { Looks G.tells (G.told outside.old) (G.told outside.new) space.old space.new }
@@ -103,8 +105,9 @@ impl Batch {
         // without another tree the ground is not asked
         ensures alone { first ≡ None → (outside.new ≡ outside.old) × (space.new ≡ space.old) × IfErr result IsUnfetched }
     {
-        let ahead = tally_root(alloc, &tree.root)?;
-        let fresh = match find_fresh(alloc, outside, space, &tree.root, &ahead, first) {
+        let tallied = tally_root(alloc, &tree.root)?;
+        let ahead = tallied.ahead.as_slice();
+        let fresh = match find_fresh(alloc, outside, space, &tree.root, ahead, first) {
             Ok(fresh) => fresh,
             Err(fault) => return Err(fault),
         };
@@ -112,10 +115,10 @@ impl Batch {
             Ok(placing) => placing,
             Err(Memory) => return Err(SaveFault::Memory),
         };
-        let room = room_for(&placing.put, fields);
+        let room = room_for(&placing.put, tallied.room, fields);
         let mut bytes = Vec::with_capacity(alloc, room)?;
         put_each(&placing.put, &mut bytes)?;
-        let root = put_root(alloc, &tree.root, &placing.refs, &ahead, end, &mut bytes)?;
+        let root = put_root(alloc, &tree.root, &placing.refs, ahead, end, &mut bytes)?;
         let commit_at = end + bytes.len() as u64;
         let name = put_commit(fields, &root, &mut bytes)?;
         put_branch(fields, &mut bytes)?;

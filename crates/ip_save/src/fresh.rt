@@ -3,7 +3,7 @@ ghost use Rattle.std.specs.Prelude.{◌≡◌, ◌∷◌, [], ◌&&◌, ◌==◌
 ghost use Rattle.std.specs.List.{AllByRecursion};
 ghost use Rattle.ip_ground.specs.Counts.{Counts};
 ghost use Rattle.ip_save.specs.Batches.{IsFirst};
-ghost use Rattle.ip_save.specs.Laid.{BeginsWith, IsShort, fresh, fresh_root, longest, longest_root, nodes_in, tallies, tallies_among, tallies_root};
+ghost use Rattle.ip_save.specs.Laid.{BeginsWith, IsShort, fresh, fresh_among, fresh_root, longest, longest_among, longest_root, nodes_in, tallies, tallies_among, tallies_root};
 ghost use Rattle.ip_save.specs.Reused.{AreHashed, IsDirectoryThere, IsFound, IsFreeSave, IsFreshFault, IsLost, IsSaveCause, IsThere, IsUnfetched};
 ghost use Rattle.ip_save.specs.Reused.{again, again_among, again_root, as_directory, bytes_in, entry_at, found_in, counted_save, held_by, look_fault, reference_in, same_contents};
 ghost use Rattle.ip_space.specs.SpaceView.{IsReadable, records_of};
@@ -11,7 +11,7 @@ ghost use Rattle.ip_spec.specs.View.{View};
 ghost use Rattle.ip_spec.specs.declared.kind.TheConstants as kinds;
 ghost use Rattle.ip_spec.specs.declared.record.Record.{Record};
 ghost use Rattle.ip_tree.specs.Reads.{IsOver, Looks};
-ghost use Rattle.ip_tree.specs.Shown.{shown, shown_directory, shown_root};
+ghost use Rattle.ip_tree.specs.Shown.{shown, shown_root};
 ghost use Rattle.sha2.specs.Sha256.{sha256};
 ghost use Rattle.ip_spec.specs.Path.{same_bytes};
 
@@ -66,10 +66,16 @@ pub fn find_fresh<'a, G: Ground>(
     let mut fresh = Vec::new(alloc);
     match root {
         Root::Stored(_) => Ok(fresh),
-        Root::Loaded(dir) => match find_in(outside, space, dir, inside(ahead), &first, &mut fresh) {
-            Ok(()) => Ok(fresh),
-            Err(fault) => Err(fault),
-        },
+        Root::Loaded(dir) => {
+            let new = new_in(ahead);
+            if new == 0 {
+                return Ok(fresh);
+            }
+            match find_in(outside, space, dir, inside(ahead), &first, &mut fresh) {
+                Ok(()) => Ok(fresh),
+                Err(fault) => Err(fault),
+            }
+        }
     }
 }
 
@@ -84,8 +90,8 @@ fn find_in<'a, G: Ground>(
     other: &Option<Ref>,
     out: &mut Vec<Fresh<'a>>,
 ) -> Result<(), SaveFault>
-    ensures found { BeginsWith (tallies_among (nodes_in dir.now)) ahead.now → MatchResult result (λ _. IsFound G.tells (G.told outside.old) space.old (fresh (shown_directory dir.now)) (λ records. again_among records (nodes_in dir.now) other.now) out.old.items out.new.items)
-        (IsLost G.tells (G.told outside.old) space.old (longest (shown_directory dir.now)) (λ records. IsDirectoryThere records other.now)) }
+    ensures found { BeginsWith (tallies_among (nodes_in dir.now)) ahead.now → MatchResult result (λ _. IsFound G.tells (G.told outside.old) space.old (fresh_among (nodes_in dir.now)) (λ records. again_among records (nodes_in dir.now) other.now) out.old.items out.new.items)
+        (IsLost G.tells (G.told outside.old) space.old (longest_among (nodes_in dir.now)) (λ records. IsDirectoryThere records other.now)) }
     ensures looks { Looks G.tells (G.told outside.old) (G.told outside.new) space.old space.new }
     ensures counts { Counts counted_save result (G.counts_of outside.old) (G.counts_of outside.new) }
     ensures alone { other.now ≡ None → (outside.new ≡ outside.old) × (space.new ≡ space.old) × IfErr result IsUnfetched }

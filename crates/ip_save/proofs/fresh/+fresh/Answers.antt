@@ -1,4 +1,4 @@
-use Rattle.std.proofs.Common.{rules, ◌≡◌, [], List, refl, ap, sym, subst, ◌∙◌}
+use Rattle.std.proofs.Common.{rules, ◌≡◌, [], List, None, refl, ap, sym, subst, ◌∙◌}
 use Rattle.std.specs.Prelude.{MatchResult}
 use Rattle.ip_ground.specs.Counts.{CountsIf, Noted}
 use Rattle.ip_shape.specs.Directory.{root_of}
@@ -9,11 +9,11 @@ use Rattle.ip_tree.specs.Shown.{shown, shown_directory}
 use Rattle.ip_tree.specs.declared.node.Node.{Node}
 use Rattle.ip_tree.proofs.Looking.{looks_nothing, looks_on}
 use Rattle.ip_tree.proofs.Nodes.{stored_shown, directory_shown}
-use Rattle.ip_save.specs.Laid.{BeginsWith, fresh, fresh_among, longest, nodes_in, tallies, tallies_among}
+use Rattle.ip_save.specs.Laid.{BeginsWith, fresh, longest, nodes_in, record_of, tallies, tallies_among}
 use Rattle.ip_save.specs.Reused.{IsDirectoryThere, IsFound, IsLost, again, entry_at, counted_save}
 use Rattle.ip_save.proofs.Finding.{SoFar, all_found, directory_later, empty, failed, none_found, none_yet, one_more}
 use Rattle.ip_save.proofs.Rests.{rest_of}
-use Rattle.ip_save.proofs.Tallies.{inside_first, new_first, own_behind, own_first}
+use Rattle.ip_save.proofs.Tallies.{inside_first, new_first, open_first, own_behind, own_first}
 use Rattle.ip_save.proofs.fresh.+fresh.Goals as goal
 
 pub find_in-loop-step-init : goal.find_in-loop-step-init
@@ -124,7 +124,7 @@ find_at-returns-then-new-eq0 g t c =
     record {
       found = λ begins.
           let own = subst (λ (n : view.Node). BeginsWith (tallies n) c.args.ahead.now) shows begins in
-          let none = empty (fresh_among (nodes_in d)) (sym (new_first (root_of d) (nodes_in d) c.args.ahead.now own) ∙ sym c.new_in-new.ensures ∙ c.if-new-eq0.true) in
+          let none = empty (fresh (shown_directory d)) (sym (new_first (root_of d) (nodes_in d) c.args.ahead.now own) ∙ sym c.new_in-new.ensures ∙ c.if-new-eq0.true) in
           none_found ground.tells told c.args.space.now (shown c.args.node.now) c.args.step.now c.args.other.now c.args.out.now.items (ap fresh shows ∙ none);
       looks = looks_nothing ground.tells told c.args.space.now;
       counts = refl {a = ground.counts_of c.args.outside.now};
@@ -139,10 +139,12 @@ find_at-returns-in-Ok-clause-found g t c begins =
     let d = c.in-Directory.dir in
     let other = c.args.other.now in
     let shows : shown c.args.node.now ≡ shown_directory d = ap shown c.in-Directory.is ∙ directory_shown d in
+    let own = subst (λ (n : view.Node). BeginsWith (tallies n) c.args.ahead.now) shows begins in
+    let whole : record_of (root_of d) ≡ None = open_first (root_of d) (nodes_in d) c.args.ahead.now own (λ none. c.if-new-eq0.false (c.new_in-new.ensures ∙ none)) in
     subst (λ (n : view.Node). MatchResult c.find_in.result (λ u. IsFound ground.tells told c.args.space.now (fresh n) (λ records. again records n (entry_at records c.args.step.now other)) c.args.out.now.items c.find_in.new.out.items)
     (IsLost ground.tells told c.args.space.now (longest n) (λ records. IsDirectoryThere records other))) (sym shows)
-    (directory_later ground.tells told now c.args.space.now c.directory_at.new.space c.in-Ok.ensures.looks (root_of d) (nodes_in d) c.args.step.now other c.in-Ok.below c.in-Ok.ensures.found c.in-Ok.ensures.there c.args.out.now.items c.find_in.new.out.items
-    c.find_in.result (c.find_in.ensures.found (inside_first (root_of d) (nodes_in d) c.args.ahead.now (subst (λ (n : view.Node). BeginsWith (tallies n) c.args.ahead.now) shows begins) c.inside.result.now c.inside.ensures)))
+    (directory_later ground.tells told now c.args.space.now c.directory_at.new.space c.in-Ok.ensures.looks (root_of d) (nodes_in d) whole c.args.step.now other c.in-Ok.below c.in-Ok.ensures.found c.in-Ok.ensures.there c.args.out.now.items c.find_in.new.out.items
+    c.find_in.result (c.find_in.ensures.found (inside_first (root_of d) (nodes_in d) c.args.ahead.now own whole c.inside.result.now c.inside.ensures)))
 
 pub find_at-returns-in-Ok-clause-looks : goal.find_at-returns-in-Ok-clause-looks
 find_at-returns-in-Ok-clause-looks g t c = looks_on g.G.Ground.tells _ _ _ _ _ _ c.in-Ok.ensures.looks c.find_in.ensures.looks
