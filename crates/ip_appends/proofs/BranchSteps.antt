@@ -8,6 +8,7 @@ use Rattle.std.specs.Prelude.{Result, Ok, Err, IfErr, IfSome, IsSome, IsSomeAnd,
 use Rattle.ip_base.specs.declared.limit.Limit.{Limit}
 use Rattle.ip_base.specs.declared.limit.TheConstants.{OFFSET_MAX}
 use Rattle.ip_ground.specs.Told.{Told}
+use Rattle.ip_ground.proofs.Passing.{changes_nothing}
 use Rattle.ip_spec.specs.declared.record.Record.{Record}
 use Rattle.ip_spec.specs.declared.reply.Reply.{Reply}
 use Rattle.ip_spec.specs.Path.{Bytes}
@@ -33,6 +34,7 @@ use Rattle.ip_held.proofs.Machine.{each_reply}
 use Rattle.ip_held.proofs.Renamed.{may_same, named_may, named_step, named_tables, slot_from}
 use Rattle.ip_held.proofs.Room.{err_of}
 use Rattle.ip_held.proofs.Taking.{fault_grew, fault_took, refused_grew, refused_took, still_grew, still_took, value_grew, value_took}
+use Rattle.ip_held.proofs.Untouched.{taken_untouched}
 use Rattle.ip_appends.specs.Naming.{AnswersSet, AppendsRecord, RemovesBranch, Renames, SetsBranch, branch_reply, without_branch}
 use Rattle.ip_appends.proofs.BranchTurns.{absent_same, remove_cut, remove_done, remove_memory, remove_none, set_answers, set_leaving, set_may, set_memory, set_refused}
 
@@ -47,10 +49,12 @@ module _ (tells : Bool) (x : Record) (store : Held) (told : Told) where
   record_undone fault tables limits undamaged = record {
     tables = λ r of may. tables r of;
     same_collection = refl;
+    unswept = refl;
     limits = limits;
     appends = λ tells. tt;
     grew = λ tells r held. refused_grew (λ done. true) fault held;
     took = λ tells r held may. refused_took (λ done. true) fault held (renamed r x) ((store.slot.end, x) ∷ []);
+    untouched = λ tells is other. changes_nothing told;
     clear = λ tells has r held clear. clear;
     undamaged = undamaged;
   }
@@ -87,7 +91,7 @@ module _ (tells : Bool) (x : Record) (fits : Fits 1 x) (served : IsServedKind x)
     step_taken : {told : Told} (held : Holds store told r) → IsStep held (renamed r x) more bytes step
     step_taken held = let (slot_is, room) = slot_from store r (length bytes) 0 slot of (omega arith) next in named_step r store of x may fits served bytes is slot store.slot.next_attempt slot_is room (λ _ _. refl) above (Entry.Branch x) refl held
 
-  module _ (result : Result (Unit {0}) StoreFault) (now : Held) (old new : Told) (taken : OnOk result (now ≡ entered store step)) (refused : result ≡ Err StoreFault.Memory → now ≡ store) (cut : IfErr result IsCut)
+  module _ (result : Result (Unit {0}) StoreFault) (now : Held) (old new : Told) (taken : OnOk result (now ≡ entered store step)) (refused : result ≡ Err StoreFault.Memory → now ≡ store) (still : IsTrue tells → result ≡ Err StoreFault.Memory → new ≡ old) (cut : IfErr result IsCut)
       (took : IsTrue tells → (r after : Repository) (more : Records) (held : Holds store old r) → IsStep held after more bytes step → Took (λ (u : Unit {0}). true) held after more result now new) where
     tables_by : (res : Result (Unit {0}) StoreFault) → OnOk res (now ≡ entered store step) → (res ≡ Err StoreFault.Memory → now ≡ store) → IfErr res IsCut → (r : Repository) → IsOf store r → MayName r x → Renames r x res now
     tables_by (Ok u) is refused cut r of may = subst (λ (h : Held). IsOf h (renamed r x)) (sym is) (tables_taken r of may)
@@ -115,14 +119,16 @@ module _ (tells : Bool) (x : Record) (fits : Fits 1 x) (served : IsServedKind x)
     }
     appends_by q known may (Err fault) taken took = tt
 
-    pub record_taken : (q : Repository) → IsOf store q → MayName q x → now.collection ≡ store.collection → (IsTrue tells → (r : Repository) (held : Holds store old r) → Grew (λ (u : Unit {0}). true) held result now new) → (IsTrue tells → HasAnswer result → (r : Repository) → Holds store old r → KeepsClear store now old new) → AppendsRecord tells x result store now old new
-    record_taken q known may same grew clear = record {
+    pub record_taken : (q : Repository) → IsOf store q → MayName q x → now.collection ≡ store.collection → now.unswept ≡ store.unswept → (IsTrue tells → (r : Repository) (held : Holds store old r) → Grew (λ (u : Unit {0}). true) held result now new) → (IsTrue tells → HasAnswer result → (r : Repository) → Holds store old r → KeepsClear store now old new) → AppendsRecord tells x result store now old new
+    record_taken q known may same unswept grew clear = record {
       tables = tables_by result taken refused cut;
       same_collection = same;
+      unswept = unswept;
       limits = limits_by result cut;
       appends = λ tells. appends_by q known may result taken (λ r held may. took tells r (renamed r x) more held (step_taken r held.tables may held));
       grew = grew;
       took = λ tells r held may. took tells r (renamed r x) more held (step_taken r held.tables may held);
+      untouched = λ tells. taken_untouched old new result (still tells) cut;
       clear = clear;
       undamaged = undamaged_by result cut;
     }
@@ -141,12 +147,14 @@ module _ (tells : Bool) (name : Bytes) (number : ℕ) (store : Held) (told : Tol
   set_undone fault ground wanted answered limits undamaged = record {
     answered = λ r of retained. answered r of;
     same_collection = refl;
+    unswept = refl;
     begun = λ r of e. absurd (ground (cc e));
     wanted = λ r of e. wanted (cc e) r of;
     limits = limits;
     appends = λ tells. tt;
     grew = λ tells r held. refused_grew (λ done. true) fault held;
     took = λ tells r held retained. refused_took (λ done. true) fault held (with_branch r name number) ((store.slot.end, Record.BranchSet number name) ∷ []);
+    untouched = λ tells is other. changes_nothing told;
     undamaged = undamaged;
   }
 
@@ -185,12 +193,14 @@ module _ (tells : Bool) (name : Bytes) (number : ℕ) (store : Held) (told : Tol
   set_done stays room result now new does = record {
     answered = λ r of retained. set_answers r (phase_of store.collection) name number now result stays (room r of) (does.tables r of (set_may r name number store of retained (room r of)));
     same_collection = does.same_collection;
+    unswept = does.unswept;
     begun = λ r of ground. (stays, room r of);
     wanted = λ r of memory. (stays, room r of);
     limits = does.limits;
     appends = does.appends;
     grew = does.grew;
     took = λ tells r held retained. does.took tells r held (set_may r name number store held.tables retained (room r held.tables));
+    untouched = does.untouched;
     undamaged = does.undamaged;
   }
 
@@ -201,6 +211,7 @@ module _ (tells : Bool) (name : Bytes) (store : Held) (told : Told) where
   removed_none none = record {
     answered = λ r of. remove_none r (phase_of store.collection) name store of (none r of);
     same_collection = refl;
+    unswept = refl;
     begun = λ r of e. absurd (cc e);
     wanted = λ r of e. absurd (cc e);
     limits = λ some. absurd (some refl);
@@ -208,6 +219,7 @@ module _ (tells : Bool) (name : Bytes) (store : Held) (told : Told) where
     grew = λ tells r held. still_grew (λ removed. removed) false refl held;
     took = λ tells r held. subst (λ (q : Repository). Took (λ removed. removed) held q ((store.slot.end, Record.BranchRemove name) ∷ []) (Ok false) store told) (sym (absent_same r name (none r held.tables)))
         (still_took (λ removed. removed) false refl held ((store.slot.end, Record.BranchRemove name) ∷ []));
+    untouched = λ tells is other. absurd (cc is);
     undamaged = tt;
   }
 
@@ -219,12 +231,14 @@ module _ (tells : Bool) (name : Bytes) (store : Held) (told : Told) where
     removed_short = record {
       answered = λ r of. remove_memory r (phase_of store.collection) name store of;
       same_collection = refl;
+      unswept = refl;
       begun = λ r of e. absurd (cc e);
       wanted = λ r of e. begun_there r of;
       limits = λ some. none_met (store.slot.end + length (spelling (Record.BranchRemove name))) StoreFault.Memory store (λ e. cc e) (λ e. cc e);
       appends = λ tells e. absurd (cc e);
       grew = λ tells r held. refused_grew (λ removed. removed) StoreFault.Memory held;
       took = λ tells r held. refused_took (λ removed. removed) StoreFault.Memory held (without_branch r name) ((store.slot.end, Record.BranchRemove name) ∷ []);
+      untouched = λ tells is other. changes_nothing told;
       undamaged = tt;
     }
 
@@ -232,12 +246,14 @@ module _ (tells : Bool) (name : Bytes) (store : Held) (told : Told) where
     removed_cut now new fault does = record {
       answered = λ r of. let (n, is) = there r of in remove_cut r (phase_of store.collection) name now n fault is (does.tables r of tt);
       same_collection = does.same_collection;
+      unswept = does.unswept;
       begun = λ r of e. begun_there r of;
       wanted = λ r of e. begun_there r of;
       limits = λ some. record { space = λ e. does.limits.space (err_of fault (StoreFault.Limit Limit.Space) e); sequence = λ e. does.limits.sequence (err_of fault (StoreFault.Limit Limit.Sequence) e); enough = tt };
       appends = λ tells e. absurd (cc e);
       grew = λ tells r held. fault_grew (λ done. true) (λ removed. removed) fault held now (does.grew tells r held);
       took = λ tells r held. fault_took (λ done. true) (λ removed. removed) fault held (without_branch r name) ((store.slot.end, Record.BranchRemove name) ∷ []) now (does.took tells r held tt);
+      untouched = λ tells is other. does.untouched tells refl (λ e. other (err_of fault StoreFault.Ground e));
       undamaged = undamaged_of fault does.undamaged;
     }
       where
@@ -249,11 +265,13 @@ module _ (tells : Bool) (name : Bytes) (store : Held) (told : Told) where
     removed_done now new does = record {
       answered = λ r of. let (n, is) = there r of in remove_done r (phase_of store.collection) name now n is (does.tables r of tt);
       same_collection = does.same_collection;
+      unswept = does.unswept;
       begun = λ r of e. begun_there r of;
       wanted = λ r of e. begun_there r of;
       limits = λ some. record { space = λ e. absurd (cc e); sequence = λ e. absurd (cc e); enough = does.limits.enough };
       appends = λ tells e. does.appends tells;
       grew = λ tells r held. value_grew (λ removed. removed) true refl held now (does.grew tells r held);
       took = λ tells r held. value_took (λ removed. removed) true refl held (without_branch r name) ((store.slot.end, Record.BranchRemove name) ∷ []) now (does.took tells r held tt);
+      untouched = λ tells is other. absurd (cc is);
       undamaged = tt;
     }

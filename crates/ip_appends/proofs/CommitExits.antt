@@ -5,7 +5,8 @@ use Rattle.std.proofs.Common.{◌≡◌, ℕ, ◌^◌, ◌<◌, ◌≤◌, Bool,
 use Rattle.std.specs.Prelude.{Result, Ok, Err, IfSome, IsErrOf, IsTrue}
 use Rattle.ip_base.specs.declared.info.Info.{Info}
 use Rattle.ip_base.specs.declared.limit.Limit.TheVariants as Limit
-use Rattle.ip_ground.specs.Told.{Told}
+use Rattle.ip_ground.specs.Told.{Told, NoFile}
+use Rattle.ip_ground.proofs.Spans.{only_on}
 use Rattle.ip_image.specs.declared.slot.Slot.{Slot}
 use Rattle.ip_image.proofs.OneRepository.{all_records}
 use Rattle.ip_spec.specs.Path.{Bytes}
@@ -36,6 +37,7 @@ use Rattle.ip_held.proofs.Room.{err_of}
 use Rattle.ip_held.proofs.Clearing.{looked_clear}
 use Rattle.ip_held.proofs.Stepping.{same_tables, with_answer}
 use Rattle.ip_held.proofs.Taking.{behind_grew, behind_took, fault_grew, fault_took, looked_grew, looked_took, value_grew, value_took}
+use Rattle.ip_held.proofs.Untouched.{taken_untouched}
 use Rattle.ip_appends.specs.declared.committing.Plan.{Plan}
 use Rattle.ip_appends.specs.Commits.{CommitsWork, IsNext, IsPlan, end_of, records_of, repository_after}
 use Rattle.ip_appends.proofs.AfterCommit.{IsRead, after_is, after_parents, after_tables, answers_made, answers_refused, commit_step, entering, no_info, saved_tree, some_commit, stored_tree, work_after}
@@ -58,6 +60,7 @@ module _ (tells : Bool) (branch : Bytes) (info : Info) (store mid : Held) (work 
     numbers = same_numbers store mid same;
     tables = λ r of are has. record { repository = r; tables = same_tables store mid same r of; parents = are };
     same_collection = same.collection;
+    unswept = same.unswept;
     answered = λ told r v at. answers_refused r (phase_of store.collection) work v branch info fault mid b (at_behind store mid a b (looks told) r work v at) (refused told r v at);
     saved = λ told r q v at still. tt;
     limits = λ told r v at. record {
@@ -70,7 +73,7 @@ module _ (tells : Bool) (branch : Bytes) (info : Info) (store mid : Held) (work 
     took = λ told r v at. looked_took (λ (name : Hash). true) fault same (looks told) at.holds (repository_after r (phase_of store.collection) work v branch info) (records_of r work v (first_parent at) branch info store);
     causes = cause;
     undamaged = λ told r v at. undamaged_as Plan Hash fault (undamaged told r v at);
-    untouched = λ told damaged. (looks told).reads.only;
+    untouched = λ told is other. (looks told).reads.only;
     wanted = λ r of e. wanted r of (err_of fault StoreFault.Memory e);
     clear = λ told has r held. clear_mid told;
     alone = λ none. undamaged_as Plan Hash fault (alone none);
@@ -79,7 +82,7 @@ module _ (tells : Bool) (branch : Bytes) (info : Info) (store mid : Held) (work 
   -- ---- behind a plan
 
   module _ (plan : Plan) (coming : (r : Repository) → IsOf store r → IsNext r work.parents branch store plan) (planned : IsTrue tells → (r : Repository) (v : View) (at : IsAt a store r work v) → IsPlan r work v (first_parent at) branch info store plan)
-      (there : (r : Repository) → IsOf store r → IsThere r work.least) (passed : (r : Repository) → IsOf store r → first_refusal r (phase_of store.collection) work.least work.parents branch ≡ Ok tt) (now : Held) (c : Told) (res : Result (Unit {0}) StoreFault) (numbers : KeepsNumbers mid now) (collection : now.collection ≡ mid.collection)
+      (there : (r : Repository) → IsOf store r → IsThere r work.least) (passed : (r : Repository) → IsOf store r → first_refusal r (phase_of store.collection) work.least work.parents branch ≡ Ok tt) (now : Held) (c : Told) (res : Result (Unit {0}) StoreFault) (numbers : KeepsNumbers mid now) (collection : now.collection ≡ mid.collection) (unswept : now.unswept ≡ mid.unswept)
       (grows : IsTrue tells → (r : Repository) (held : Holds mid b r) → Grew (λ (done : Unit {0}). true) held res now c)
       (takes : IsTrue tells → (r after : Repository) (more : Records) (held : Holds mid b r) → IsStep held after more plan.batch.bytes.items plan.step → Took (λ (done : Unit {0}). true) held after more res now c)
       (clears : IsTrue tells → HasAnswer res → (r : Repository) → Holds mid b r → KeepsClear mid now b c) where
@@ -138,6 +141,7 @@ module _ (tells : Bool) (branch : Bytes) (info : Info) (store mid : Held) (work 
         parents = are;
       };
       same_collection = collection ∙ same.collection;
+      unswept = unswept ∙ same.unswept;
       answered = λ told r v at. cut_answer told r v at fault cut memory;
       saved = λ told r q v at still. tt;
       limits = λ told r v at. cut_limits (end_of r work v (first_parent at) branch info store) store (Err fault) cut (enough told r v at);
@@ -148,7 +152,7 @@ module _ (tells : Bool) (branch : Bytes) (info : Info) (store mid : Held) (work 
           (subst (λ (x : Result (Unit {0}) StoreFault). Took (λ (done : Unit {0}). true) at.holds (after told r v at) (all told r v at) x now c) is (took_step told r v at));
       causes = cut_cause tells a store.space (Err fault) cut;
       undamaged = λ told r v at. cut_undamaged (Err fault) cut;
-      untouched = λ told damaged. absurd (damaged (cut_undamaged (Err fault) cut));
+      untouched = λ told is other. only_on a b c NoFile (looks told).reads.only (taken_untouched b c {A = Unit {0}} (Err fault) (λ e. (memory (cc e)).1) cut refl (λ e. other (err_of fault StoreFault.Ground e)));
       wanted = λ r of e. passed r of;
       clear = λ told has. clear_now told (subst HasAnswer (sym is) (with_answer (Unit {0}) Hash fault has));
       alone = λ none. cut_undamaged (Err fault) cut;
@@ -205,6 +209,7 @@ module _ (tells : Bool) (branch : Bytes) (info : Info) (store mid : Held) (work 
         numbers = kept;
         tables = λ r of are has. tables_made r of are;
         same_collection = collection ∙ same.collection;
+        unswept = unswept ∙ same.unswept;
         answered = λ told r v at. answer_made told r v at name named;
         saved = λ told r q v at still. saved_made told r v at q still;
         limits = λ told r v at. cut_limits (end_of r work v (first_parent at) branch info store) store (Ok name) tt (enough told r v at);
@@ -214,7 +219,7 @@ module _ (tells : Bool) (branch : Bytes) (info : Info) (store mid : Held) (work 
         took = λ told r v at. value_took (λ (name : Hash). true) name refl at.holds (after told r v at) (all told r v at) now (took_all told r v at);
         causes = tt;
         undamaged = λ told r v at. tt;
-        untouched = λ told damaged. absurd (damaged tt);
+        untouched = λ told is other. absurd (cc is);
         wanted = λ r of e. absurd (cc (e));
         clear = λ told has. clear_now told (subst HasAnswer (sym is) tt);
         alone = λ none. tt;

@@ -25,6 +25,7 @@ use Rattle.ip_tree.specs.TreeView.{IsView, stored_view}
 use Rattle.ip_tree.specs.declared.tree.Tree as lazy
 use Rattle.ip_tree.specs.declared.tree.Root.TheVariants.{Stored}
 use Rattle.ip_tree.proofs.Stands.{known_stand}
+use Rattle.ip_tree.proofs.StoredWhole.{stored_view_below}
 use Rattle.ip_held.specs.declared.held.Held.{Held}
 use Rattle.ip_held.specs.Answers.{first_view, root_in, viewed_at}
 use Rattle.ip_held.specs.Placed.{IsCommitAt}
@@ -91,6 +92,7 @@ module _ (store : Held) (told : Told) (r : Repository) (held : Holds store told 
           narrow = narrow_tree records good parts commit.root_at map spelled;
           oldest = refl;
           known = λ part. refl;
+          below = stored_view_below records number commit.root_at (tree_at r number) spelled.1;
         };
         rooted = rooted_stored records number place.0 commit map here.here here.spells.number;
         oldest = refl;

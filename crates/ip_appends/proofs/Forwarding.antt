@@ -5,6 +5,7 @@ use Rattle.std.proofs.Common.{◌≡◌, ℕ, ◌+◌, true, [], ◌∷◌, ap, 
 use Rattle.std.specs.Prelude.{Result, Ok, Err, is_some, not, ◌&&◌, ◌==◌, nat_le, Option, Bool}
 use Rattle.ip_base.specs.declared.limit.Limit.{Limit}
 use Rattle.ip_ground.specs.Told.{Told}
+use Rattle.ip_ground.proofs.Passing.{changes_nothing}
 use Rattle.ip_spec.specs.declared.record.Record.{Record}
 use Rattle.ip_spec.specs.declared.reply.Reply.{Reply}
 use Rattle.ip_spec.specs.History.{ParentsFirst, is_ancestor}
@@ -87,9 +88,11 @@ module _ (branch : Bytes) (number : ℕ) (store : Held) where
     comes = λ r of is. named r of is;
     tables = λ r of is has. (with_branch r branch number, record { tables = did.tables r of (forward_may r of is); parents = λ least ns are. record { made = are.made; above = are.above; distinct = are.distinct; few = are.few } });
     same_collection = did.same_collection;
+    unswept = did.unswept;
     limits = record { space = λ e. absurd (cc (e)); sequence = λ e. absurd (cc (e)); enough = did.limits.enough };
     appends = did.appends;
     grew = λ told r held. value_grew moves (Merge.Forward name) refl held now (did.grew told r held);
+    untouched = λ told is other. absurd (cc is);
     took = λ told r held is. value_took moves (Merge.Forward name) refl held (with_branch r branch number) ((store.slot.end, one) ∷ []) now (did.took told r held (forward_may r held.tables is));
     clear = λ told has. did.clear told tt;
     undamaged = tt;
@@ -98,9 +101,11 @@ module _ (branch : Bytes) (number : ℕ) (store : Held) where
     comes = λ r of is. comes r now fault (did.tables r of (forward_may r of is));
     tables = λ r of is has. (r, goes_itself r now (stays r now fault (did.tables r of (forward_may r of is)) has));
     same_collection = did.same_collection;
+    unswept = did.unswept;
     limits = limits_of fault did.limits;
     appends = λ told. tt;
     grew = λ told r held. fault_grew (λ (u : Unit {0}). true) moves fault held now (did.grew told r held);
+    untouched = λ told is other. did.untouched told refl (λ e. other (err_of fault StoreFault.Ground e));
     took = λ told r held is. fault_took (λ (u : Unit {0}). true) moves fault held (with_branch r branch number) ((store.slot.end, one) ∷ []) now (did.took told r held (forward_may r held.tables is));
     clear = λ told has. did.clear told (with_answer (Unit {0}) Merge fault has);
     undamaged = undamaged fault did.undamaged;
@@ -111,9 +116,11 @@ module _ (branch : Bytes) (number : ℕ) (store : Held) where
     comes = λ r of is. tt;
     tables = λ r of is has. (r, goes_itself r store of);
     same_collection = refl;
+    unswept = refl;
     limits = record { space = λ e. absurd (cc (e)); sequence = λ e. absurd (cc (e)); enough = tt };
     appends = λ told. tt;
     grew = λ told r held. refused_grew moves StoreFault.Memory held;
+    untouched = λ told is other. changes_nothing a;
     took = λ told r held is. refused_took moves StoreFault.Memory held (with_branch r branch number) ((store.slot.end, one) ∷ []);
     clear = λ told has r held clear. clear;
     undamaged = tt;

@@ -1,7 +1,7 @@
 -- A merge whose trees were merged: what the commit of the merged tree answers and does, behind calls that only looked.
 --     join_may      the parents of its work.      done      all that is promised of it
 use Rattle.std.proofs.Common.{◌≡◌, ℕ, Bool, true, List, [], ◌∷◌, Option, Some, refl, sym, ◌∙◌, ap, subst}
-use Rattle.std.specs.Prelude.{Result, Ok, Err, OnOk, IfSome, IfErr, IsTrue, min}
+use Rattle.std.specs.Prelude.{Result, Ok, Err, OnOk, IfSome, IfErr, IsErr, IsErrOf, IsTrue, min}
 use Rattle.std.proofs.lemmas.Result.{on_ok_weaker}
 use Rattle.ip_base.specs.declared.info.Info.{Info}
 use Rattle.ip_ground.specs.Told.{Told, NoFile}
@@ -40,6 +40,7 @@ use Rattle.ip_appends.proofs.FirstTree.{first_left}
 use Rattle.ip_held.proofs.Clearing.{looked_clear}
 use Rattle.ip_held.proofs.Phases.{retained_parents, stays_least}
 use Rattle.ip_held.proofs.LookedUp.{appends_behind}
+use Rattle.ip_held.proofs.Room.{err_of}
 use Rattle.ip_appends.proofs.MergeExits.{slot_still}
 use Rattle.ip_held.proofs.Stepping.{same_tables, with_answer}
 use Rattle.ip_held.proofs.Taking.{behind_took, behind_grew}
@@ -131,6 +132,10 @@ module _ (tells : Bool) (rule : Rule) (branch : Bytes) (info : Info) (sides : Si
   undamaged_merged (Err (StoreFault.Damaged place names)) is = absurd is
   undamaged_merged (Err _) is = tt
 
+  refused_merged : (result : Result Hash StoreFault) → IsErr (merged_of result) → ¬ IsErrOf (merged_of result) StoreFault.Ground → IsErr result × ¬ IsErrOf result StoreFault.Ground
+  refused_merged (Ok name) is other = absurd (cc is)
+  refused_merged (Err fault) is other = (refl, λ e. other (err_of fault StoreFault.Ground e))
+
   causes_merged : (result : Result Hash StoreFault) → IfErr result (IsStoreCause tells a store.space) → IfErr (merged_of result) (IsStoreCause tells a store.space)
   causes_merged (Ok name) cause = tt
   causes_merged (Err fault) cause = cause
@@ -142,6 +147,7 @@ module _ (tells : Bool) (rule : Rule) (branch : Bytes) (info : Info) (sides : Si
         let goes = commits.tables r may.0 may.1 (has_merged result has) in
         (goes.repository, goes_on_from mid now r goes.repository may.0 commits.numbers goes.tables);
     same_collection = commits.same_collection ∙ same.collection;
+    unswept = commits.unswept ∙ same.unswept;
     grew = λ told r held. behind_grew moves (merged_of result) same (looks told) held now (grew_merged ((looks told).holds r held) now c result (commits.grew told r ((looks told).holds r held)));
     merges = λ told decides r held is.
         let J = joins told decides r held is in
@@ -155,6 +161,6 @@ module _ (tells : Bool) (rule : Rule) (branch : Bytes) (info : Info) (sides : Si
         (subst (λ (o : Option Collection). Took (λ (name : Hash). true) ((looks told).holds r held) (repository_after r (phase_of o) work view branch info) (records_of r work view (first_parent here) branch info mid) result now c) same.collection (commits.took told r view here))))
         (undamaged_merged result (commits.undamaged told r view here));
     causes = causes_merged result (causes_behind looked result commits.causes);
-    untouched = λ told damaged. only_on a b c NoFile (looks told).reads.only (commits.untouched told (λ is. damaged (undamaged_merged result is)));
+    untouched = λ told is other. only_on a b c NoFile (looks told).reads.only (let both = refused_merged result is other in commits.untouched told both.0 both.1);
     clear = λ told has r held clear. commits.clear told (has_merged result has) r ((looks told).holds r held) (looked_clear store mid a b same.slot same.unswept (looks told).reads.only clear);
   }

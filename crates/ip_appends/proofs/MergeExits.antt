@@ -56,6 +56,7 @@ module _ (tells : Bool) (rule : Rule) (number : ℕ) (branch : Bytes) (info : In
   into result store now a b is wanted all = record {
     tables = λ r of here has. all.tables r of (is r of here) has;
     same_collection = all.same_collection;
+    unswept = all.unswept;
     grew = all.grew;
     merges = λ told decides r held here. all.merges told decides r held (is r held.tables here);
     causes = all.causes;
@@ -98,6 +99,7 @@ module _ (tells : Bool) (rule : Rule) (number : ℕ) (branch : Bytes) (info : In
     looked_value x still turns = record {
       tables = λ r of is has. (r, goes_itself r mid (same_tables store mid same r of));
       same_collection = same.collection;
+      unswept = same.unswept;
       grew = λ told r held. looked_still_grew moves x still same (looks told) held;
       merges = λ told decides r held is.
           let (reply, replies, quiet) = turns told decides r held is in
@@ -119,7 +121,7 @@ module _ (tells : Bool) (rule : Rule) (number : ℕ) (branch : Bytes) (info : In
             undamaged = tt;
           };
       causes = tt;
-      untouched = λ told damaged. absurd (damaged tt);
+      untouched = λ told is other. absurd (cc is);
       clear = λ told has r held. clear_mid told;
     }
 
@@ -133,6 +135,7 @@ module _ (tells : Bool) (rule : Rule) (number : ℕ) (branch : Bytes) (info : In
     looked_fault fault turns cause = record {
       tables = λ r of is has. (r, goes_itself r mid (same_tables store mid same r of));
       same_collection = same.collection;
+      unswept = same.unswept;
       grew = λ told r held. looked_grew moves fault same (looks told) held;
       merges = λ told decides r held is.
           let refused = turns told decides r held is in
@@ -155,7 +158,7 @@ module _ (tells : Bool) (rule : Rule) (number : ℕ) (branch : Bytes) (info : In
             undamaged = refused.undamaged;
           };
       causes = cause;
-      untouched = λ told damaged. (looks told).reads.only;
+      untouched = λ told is other. (looks told).reads.only;
       clear = λ told has r held. clear_mid told;
     }
       where
@@ -270,6 +273,7 @@ pub forward_into : (tells : Bool) (rule : Rule) (number : ℕ) (branch : Bytes) 
 forward_into tells rule number branch info result store now a b forwards = record {
   tables = forwards.tables;
   same_collection = forwards.same_collection;
+  unswept = forwards.unswept;
   grew = forwards.grew;
   merges = λ told decides r held is.
       let came = forwards.comes r held.tables is in
@@ -293,6 +297,6 @@ forward_into tells rule number branch info result store now a b forwards = recor
         undamaged = forwards.undamaged;
       };
   causes = undamaged_causes tells a store.space result forwards.undamaged;
-  untouched = λ told damaged. absurd (damaged forwards.undamaged);
+  untouched = forwards.untouched;
   clear = forwards.clear;
 }

@@ -4,7 +4,7 @@
 --     IsNext r from branch store plan, IsPlan r work v first branch info store plan      what a commit will do, whatever is told, and where the tree's records are
 --     repository_after r phase work v branch info      what the machine gives
 --     CommitsWork tells branch info result store now work after old new      all that is promised of the call, but for the ground's counts
-use Rattle.std.specs.Prelude.{◌≡◌, ℕ, ◌+◌, ◌<◌, ◌≤◌, Bool, true, List, [], ◌∷◌, length, Option, Result, Ok, Err, IsTrue, IfErr, IfSome, IsErrOf, OnOk}
+use Rattle.std.specs.Prelude.{◌≡◌, ℕ, ◌+◌, ◌<◌, ◌≤◌, Bool, true, List, [], ◌∷◌, length, Option, Result, Ok, Err, IsTrue, IfErr, IfSome, IsErr, IsErrOf, OnOk}
 use Rattle.ip_base.specs.declared.limit.TheConstants.{OFFSET_MAX, BRANCHES_MAX}
 use Rattle.ip_base.specs.declared.info.Info.{Info}
 use Rattle.ip_ground.specs.Told.{Told, NoFile, ChangesOnly}
@@ -101,6 +101,8 @@ pub record CommitsWork (tells : Bool) (branch : Bytes) (info : Info) (result : R
   pub numbers : KeepsNumbers store now
   pub tables : (r : Repository) → IsOf store r → AreParents r work.least work.parents → HasAnswer result → GoesOn now after
   pub same_collection : now.collection ≡ store.collection
+  -- what is unswept is so still
+  pub unswept : now.unswept ≡ store.unswept
   pub answered : IsTrue tells → (r : Repository) (v : View) → IsAt old store r work v →
       IfSome (reply_to result) (λ reply. Answers new (session r (phase_of store.collection) work v) v (Command.Commit branch info) (met_by result) reply now after)
   pub saved : IsTrue tells → (r q : Repository) (v : View) → IsAt old store r work v → (still : Holds now new q) → OnOk result (IsSaved (image_records still) after.tree (next r) v.map)
@@ -111,8 +113,8 @@ pub record CommitsWork (tells : Bool) (branch : Bytes) (info : Info) (result : R
       Took (λ name. true) here.holds (repository_after r (phase_of store.collection) work v branch info) (records_of r work v (first_parent here) branch info store) result now new
   pub causes : IfErr result (IsStoreCause tells old store.space)
   pub undamaged : IsTrue tells → (r : Repository) (v : View) → IsAt old store r work v → IsUndamaged result
-  -- behind files that others changed nothing is written
-  pub untouched : IsTrue tells → ¬ IsUndamaged result → ChangesOnly NoFile old new
+  -- no answer but a commit and a fault of the ground comes behind a write
+  pub untouched : IsTrue tells → IsErr result → ¬ IsErrOf result StoreFault.Ground → ChangesOnly NoFile old new
   -- Memory is asked for only where none of the refusals that come before the name is met.
   pub wanted : (r : Repository) → IsOf store r → IsErrOf result StoreFault.Memory → first_refusal r (phase_of store.collection) work.least work.parents branch ≡ Ok tt
   -- whatever the work's tree is

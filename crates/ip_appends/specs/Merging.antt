@@ -15,7 +15,7 @@
 --     IsCourse r phase head number course      how two commits stand to each other, by the tests of ancestors, and whether a collection gives the one up.      unless_leaving, course_in      the course where none does, or not.           IsCourseBy      by their least common ancestors
 --     IsForward r branch number, IsJoin r phase branch sides      a branch moves on to a commit, or the trees of three commits are merged
 --     IsForwarded r number result, IsJoined rule records r sides result      what comes of that.      stopped_by fault      of trees that were not merged
-use Rattle.std.specs.Prelude.{◌≡◌, ◌≢◌, ◌⊎◌, ℕ, ◌+◌, ◌<◌, ◌≤◌, true, false, List, [], ◌∷◌, length, Option, Some, None, Result, Ok, Err, OnOk, IfErr, IfSome, IsErrOf, IsSome, IsTrue, nat_lt, if◌then◌else◌, Bool}
+use Rattle.std.specs.Prelude.{◌≡◌, ◌≢◌, ◌⊎◌, ℕ, ◌+◌, ◌<◌, ◌≤◌, true, false, List, [], ◌∷◌, length, Option, Some, None, Result, Ok, Err, OnOk, IfErr, IfSome, IsErr, IsErrOf, IsSome, IsTrue, nat_lt, if◌then◌else◌, Bool}
 use Rattle.ip_base.specs.declared.limit.TheConstants.{OFFSET_MAX}
 use Rattle.ip_base.specs.declared.info.Info.{Info}
 use Rattle.ip_base.specs.declared.limit.Limit.TheVariants as Limit
@@ -217,10 +217,13 @@ pub record Forwards (tells : Bool) (number : ℕ) (branch : Bytes) (result : Res
   pub comes : (r : Repository) → IsOf store r → IsForward r branch number → IsForwarded r number result
   pub tables : (r : Repository) → IsOf store r → IsForward r branch number → HasAnswer result → (after : Repository) × GoesOnFrom r now after
   pub same_collection : now.collection ≡ store.collection
+  -- what is unswept is so still
+  pub unswept : now.unswept ≡ store.unswept
   pub limits : LimitsSpace (store.slot.end + length (spelling (Record.BranchSet number branch))) result store
   pub appends : IsTrue tells → OnOk result (Appends ((store.slot.end, Record.BranchSet number branch) ∷ []) 0 store now old new)
   pub grew : IsTrue tells → (r : Repository) (held : Holds store old r) → Grew moves held result now new
   pub took : IsTrue tells → (r : Repository) (held : Holds store old r) → IsForward r branch number → Took moves held (with_branch r branch number) ((store.slot.end, Record.BranchSet number branch) ∷ []) result now new
+  pub untouched : IsTrue tells → IsErr result → ¬ IsErrOf result StoreFault.Ground → ChangesOnly NoFile old new
   pub clear : IsTrue tells → HasAnswer result → (r : Repository) → Holds store old r → KeepsClear store now old new
   pub undamaged : IsUndamaged result
 
@@ -242,22 +245,26 @@ pub record StoreLooks (tells : Bool) (store now : Held) (old new : Told) : Type 
 pub record MergesWhere (Is : Repository → Type 0) (tells : Bool) (rule : Rule) (number : ℕ) (branch : Bytes) (info : Info) (result : Result Merge StoreFault) (store now : Held) (old new : Told) : Type 0 where
   pub tables : (r : Repository) → IsOf store r → Is r → HasAnswer result → (after : Repository) × GoesOnFrom r now after
   pub same_collection : now.collection ≡ store.collection
+  -- what is unswept is so still
+  pub unswept : now.unswept ≡ store.unswept
   pub grew : IsTrue tells → (r : Repository) (held : Holds store old r) → Grew moves held result now new
   pub merges : IsTrue tells → IsDecisive rule → (r : Repository) (held : Holds store old r) → Is r → MergesBy rule held (phase_of store.collection) number branch info result now new
   pub causes : IfErr result (IsStoreCause tells old store.space)
-  -- behind files that others changed nothing is written
-  pub untouched : IsTrue tells → ¬ IsUndamaged result → ChangesOnly NoFile old new
+  -- no fault but one of the ground comes behind a write
+  pub untouched : IsTrue tells → IsErr result → ¬ IsErrOf result StoreFault.Ground → ChangesOnly NoFile old new
   -- whatever the rules are
   pub clear : IsTrue tells → HasAnswer result → (r : Repository) → Holds store old r → KeepsClear store now old new
 
 pub record MergesInto (tells : Bool) (rule : Rule) (number : ℕ) (branch : Bytes) (info : Info) (result : Result Merge StoreFault) (store now : Held) (old new : Told) : Type 0 where
   pub tables : (r : Repository) → IsOf store r → IsTrue (is_retained r number) → HasAnswer result → (after : Repository) × GoesOnFrom r now after
   pub same_collection : now.collection ≡ store.collection
+  -- what is unswept is so still
+  pub unswept : now.unswept ≡ store.unswept
   pub grew : IsTrue tells → (r : Repository) (held : Holds store old r) → Grew moves held result now new
   pub merges : IsTrue tells → IsDecisive rule → (r : Repository) (held : Holds store old r) → IsTrue (is_retained r number) → MergesBy rule held (phase_of store.collection) number branch info result now new
   pub causes : IfErr result (IsStoreCause tells old store.space)
-  -- behind files that others changed nothing is written
-  pub untouched : IsTrue tells → ¬ IsUndamaged result → ChangesOnly NoFile old new
+  -- no fault but one of the ground comes behind a write
+  pub untouched : IsTrue tells → IsErr result → ¬ IsErrOf result StoreFault.Ground → ChangesOnly NoFile old new
   -- whatever the rules are
   pub clear : IsTrue tells → HasAnswer result → (r : Repository) → Holds store old r → KeepsClear store now old new
   -- Memory is asked for only where there is such a branch.

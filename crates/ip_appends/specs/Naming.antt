@@ -3,8 +3,8 @@
 --     branch_reply, removed_reply      the reply; a fault of the ground has none, nor has one of its files
 --     Renames r x result store      the tables after a record of a branch.      AppendsRecord tells x result store now old new      what appending it does
 --     SetsBranch, RemovesBranch tells name .. result store now old new      all that is promised of the call, but for the ground's counts
-use Rattle.std.specs.Prelude.{◌≡◌, ◌≢◌, ℕ, ◌+◌, List, [], ◌∷◌, length, true, false, Bool, Option, Some, IsSome, IfSome, IsTrue, IsErrOf, OnOk, Result, Ok, Err}
-use Rattle.ip_ground.specs.Told.{Told}
+use Rattle.std.specs.Prelude.{◌≡◌, ◌≢◌, ℕ, ◌+◌, List, [], ◌∷◌, length, true, false, Bool, Option, Some, IsSome, IfSome, IsTrue, IsErr, IsErrOf, OnOk, Result, Ok, Err}
+use Rattle.ip_ground.specs.Told.{Told, NoFile, ChangesOnly}
 use Rattle.ip_base.specs.declared.limit.Limit.{Limit}
 use Rattle.ip_spec.specs.declared.met.Met.{Met}
 use Rattle.ip_spec.specs.declared.record.Record.{Record}
@@ -69,10 +69,14 @@ Renames r x (Err fault) store = ⊥
 pub record AppendsRecord (tells : Bool) (x : Record) (result : Result (Unit {0}) StoreFault) (store now : Held) (old new : Told) : Type 0 where
   pub tables : (r : Repository) → IsOf store r → MayName r x → Renames r x result now
   pub same_collection : now.collection ≡ store.collection
+  -- what is unswept is so still
+  pub unswept : now.unswept ≡ store.unswept
   pub limits : LimitsSpace (store.slot.end + length (spelling x)) result store
   pub appends : IsTrue tells → OnOk result (Appends ((store.slot.end, x) ∷ []) 0 store now old new)
   pub grew : IsTrue tells → (r : Repository) (held : Holds store old r) → Grew (λ done. true) held result now new
   pub took : IsTrue tells → (r : Repository) (held : Holds store old r) → MayName r x → Took (λ done. true) held (renamed r x) ((store.slot.end, x) ∷ []) result now new
+  -- no fault but one of the ground comes behind a write
+  pub untouched : IsTrue tells → IsErr result → ¬ IsErrOf result StoreFault.Ground → ChangesOnly NoFile old new
   -- whatever the record does to the branches
   pub clear : IsTrue tells → HasAnswer result → (r : Repository) → Holds store old r → KeepsClear store now old new
   pub undamaged : IsUndamaged result
@@ -80,6 +84,8 @@ pub record AppendsRecord (tells : Bool) (x : Record) (result : Result (Unit {0})
 pub record SetsBranch (tells : Bool) (name : Bytes) (number : ℕ) (result : Result (Unit {0}) StoreFault) (store now : Held) (old new : Told) : Type 0 where
   pub answered : (r : Repository) → IsOf store r → IsTrue (is_retained r number) → IfSome (branch_reply result) (AnswersSet r (phase_of store.collection) name number (met_by result) now)
   pub same_collection : now.collection ≡ store.collection
+  -- what is unswept is so still
+  pub unswept : now.unswept ≡ store.unswept
   -- Files are only touched, and memory is only asked for, where no collection gives up the commit, and there is room for the branch.
   pub begun : (r : Repository) → IsOf store r → IsErrOf result StoreFault.Ground → (not_leaving_in (phase_of store.collection) (Some number) ≡ Ok tt) × (room_for_branch r name ≡ Ok tt)
   pub wanted : (r : Repository) → IsOf store r → IsErrOf result StoreFault.Memory → (not_leaving_in (phase_of store.collection) (Some number) ≡ Ok tt) × (room_for_branch r name ≡ Ok tt)
@@ -87,11 +93,15 @@ pub record SetsBranch (tells : Bool) (name : Bytes) (number : ℕ) (result : Res
   pub appends : IsTrue tells → OnOk result (Appends ((store.slot.end, Record.BranchSet number name) ∷ []) 0 store now old new)
   pub grew : IsTrue tells → (r : Repository) (held : Holds store old r) → Grew (λ done. true) held result now new
   pub took : IsTrue tells → (r : Repository) (held : Holds store old r) → IsTrue (is_retained r number) → Took (λ done. true) held (with_branch r name number) ((store.slot.end, Record.BranchSet number name) ∷ []) result now new
+  -- no fault but one of the ground comes behind a write
+  pub untouched : IsTrue tells → IsErr result → ¬ IsErrOf result StoreFault.Ground → ChangesOnly NoFile old new
   pub undamaged : IsUndamaged result
 
 pub record RemovesBranch (tells : Bool) (name : Bytes) (result : Result Bool StoreFault) (store now : Held) (old new : Told) : Type 0 where
   pub answered : (r : Repository) → IsOf store r → IfSome (removed_reply name result) (AnswersRemove r (phase_of store.collection) name (met_by result) now)
   pub same_collection : now.collection ≡ store.collection
+  -- what is unswept is so still
+  pub unswept : now.unswept ≡ store.unswept
   -- Files are only touched, and memory is only asked for, where there is such a branch.
   pub begun : (r : Repository) → IsOf store r → IsErrOf result StoreFault.Ground → IsSome (head r name)
   pub wanted : (r : Repository) → IsOf store r → IsErrOf result StoreFault.Memory → IsSome (head r name)
@@ -99,4 +109,6 @@ pub record RemovesBranch (tells : Bool) (name : Bytes) (result : Result Bool Sto
   pub appends : IsTrue tells → result ≡ Ok true → Appends ((store.slot.end, Record.BranchRemove name) ∷ []) 0 store now old new
   pub grew : IsTrue tells → (r : Repository) (held : Holds store old r) → Grew (λ removed. removed) held result now new
   pub took : IsTrue tells → (r : Repository) (held : Holds store old r) → Took (λ removed. removed) held (without_branch r name) ((store.slot.end, Record.BranchRemove name) ∷ []) result now new
+  -- no fault but one of the ground comes behind a write
+  pub untouched : IsTrue tells → IsErr result → ¬ IsErrOf result StoreFault.Ground → ChangesOnly NoFile old new
   pub undamaged : IsUndamaged result

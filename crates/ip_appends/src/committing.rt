@@ -24,7 +24,7 @@ ghost use Rattle.ip_held.specs.Trees.{OnlyLooks};
 ghost use Rattle.ip_held.specs.Work.{AreParents, IsAt, IsThere};
 ghost use Rattle.ip_held.specs.Collecting.{phase_of};
 
-use ip_base::{Blob, Hash, Info, Limit, Memory, Number, Numbers, see_name};
+use ip_base::{Blob, Hash, Info, Limit, Memory, Number, Numbers};
 use ip_ground::Ground;
 use ip_held::{Entry, Held, Step, StoreFault, Work};
 use ip_reads::root_of;
@@ -266,7 +266,6 @@ fn new_batch<G: Ground>(
     match Batch::of(alloc, outside, &mut store.space, tree, fields, first, end) {
         Ok(batch) => {
             let name = batch.name();
-            see_name(&name);
             store.is_new(name)?;
             Ok(batch)
         }

@@ -1,6 +1,6 @@
 -- A collection that is accepted.
 --     runs_through, check_through      the collection, and its check that is through
---     refused_so, refused_tables, refused_counts      why no swap was planned, and what becomes of the tables and of counts then.      turned_safe, refused_blames      whether damage was found, and where.      undamaged      a commit's record never lies at 0
+--     refused_so, refused_tables, refused_counts      why no swap was planned, and what becomes of the tables and of counts then.      turned_safe, refused_rootless      whether damage was found, and where.      undamaged      a commit's record never lies at 0
 --     accepts_tables, slot_of_swap      the tables of a swap that was made, and its slot
 --     going_on      once its pair was synced the store holds what it held
 --     accepts_none, sync_cut, swap_cut, accepts      what each way out does to what is told
@@ -53,7 +53,7 @@ use Rattle.ip_held.specs.Collecting.{IsPhase, HasEnded, IsOfChild, Collects, unt
 use Rattle.ip_held.specs.Control.{control_in}
 use Rattle.ip_collects.specs.CollectFaults.{counted_finish}
 use Rattle.ip_collects.specs.Finishing.{IsUndamaged, Serves}
-use Rattle.ip_collects.specs.Judging.{IsBlamedIn, IsThrough, IsCheckOf}
+use Rattle.ip_collects.specs.Judging.{IsCheckOf, IsRootless, IsRootlessIn, IsThrough}
 use Rattle.ip_held.specs.Placed.{places_in, AreRising}
 use Rattle.ip_publish.specs.Publishing.{TurnsGate}
 use Rattle.ip_held.specs.StandsBy.{LeavesStill, LeavesSwapped, StandsBy}
@@ -134,12 +134,19 @@ pub turned_safe : (fault : FinishFault) → IsTurnedDown (Err fault) → IsUndam
 turned_safe (FinishFault.Damaged at) is = is
 turned_safe _ is = tt
 
+rootless : (c : Collection) (at : ℕ) → at ≡ 0 → c.job.horizon ≡ 0 → IsThrough (Some c) → IsRootlessIn (Some c) at
+rootless c at zero horizon through = by c.check through
+  where
+    by : (check : Option CheckView) → IsSomeAnd check (λ k. k.stage ≡ Stage.Through None) → IsSomeAnd check (λ k. IsRootless c.job.horizon k at)
+    by None is = absurd is
+    by (Some k) is = (zero, horizon, is)
+
 -- damage that is found here is that of the commit's record
-pub refused_blames : (store now : Held) (c : Collection) (fault : FinishFault) → store.collection ≡ Some c → now ≡ turned_down fault store → RefusesSwap store c fault → (at : ℕ) → fault ≡ FinishFault.Damaged at → IsBlamedIn now.collection at
-refused_blames store now c fault runs is refused at damaged =
+pub refused_rootless : (store now : Held) (c : Collection) (fault : FinishFault) → store.collection ≡ Some c → IsThrough store.collection → now ≡ turned_down fault store → RefusesSwap store c fault → (at : ℕ) → fault ≡ FinishFault.Damaged at → IsRootlessIn now.collection at
+refused_rootless store now c fault runs through is refused at damaged =
     let (zero, horizon) = subst (RefusesSwap store c) damaged refused in
     let still : now ≡ store = is ∙ ap (λ (f : FinishFault). turned_down f store) damaged in
-    subst (λ (o : Option Collection). IsBlamedIn o at) (sym (ap (λ (s : Held). s.collection) still ∙ runs)) (inl (horizon ∙ sym zero))
+    subst (λ (o : Option Collection). IsRootlessIn o at) (sym (ap (λ (s : Held). s.collection) still ∙ runs)) (rootless c at zero horizon (subst IsThrough runs through))
 
 -- ---- the swap was made
 

@@ -6,14 +6,14 @@
 --     idle, held_idle      the store without it holds what it held.      phase, other, below      its attempt is not the live one, and was drawn
 --     for_settle      an attempt is settled
 --     orphan_left, cut_off, swept_away      what each way out does to what is told, and what the store holds then.      orphan_stays, swept_stays      each record stays, and there are no others: swept_list; nor does a crash leave others: cut_leaves, swept_leaves
-use Rattle.std.proofs.Common.{◌≡◌, ◌≢◌, ℕ, ◌<◌, Option, Some, None, true, refl, sym, subst, arith}
+use Rattle.std.proofs.Common.{◌≡◌, ◌≢◌, ℕ, ◌<◌, Option, Some, None, true, refl, sym, ◌∙◌, ap, subst, arith}
 use Rattle.std.specs.Prelude.{Bool, false, ◌/◌, ◌≤◌, Result, Ok, Err, if◌then◌else◌, ◌==◌}
 use Rattle.std.proofs.lemmas.Bool.Decides.{nat_tests}
 use Rattle.ip_ground.specs.declared.names.FileName.{FileName}
 use Rattle.ip_ground.specs.declared.names.FileName.TheVariants.{Control, Chunk, Prefix, Mapping, Done}
 use Rattle.ip_ground.specs.declared.names.GroundFault.{GroundFault}
 use Rattle.ip_ground.specs.Calls.{Settles}
-use Rattle.ip_ground.specs.Custody.{lent}
+use Rattle.ip_ground.specs.Custody.{after_settle, lent}
 use Rattle.ip_ground.specs.Contents.{Image}
 use Rattle.ip_ground.specs.Told.{Told, lending, IsForeign, IsSettledAs, NoFile}
 use Rattle.ip_ground.proofs.Lending.{settled_at, settled_stays}
@@ -249,13 +249,14 @@ module _ (store : Held) (r : Repository) (a : Told) (holds : Holds store a r) (c
     held_now : Holds (over store u) b r
     held_now = over_holds idle r u b unswept (holds_apart idle r a held_idle refl n other below these apart b (beside_for n these a b changes))
 
-    cancels : (result ≡ Ok Cancelled.Done → lending a n ≡ lent → (pair : Image) × IsSettledAs b n pair) → (result ≡ Ok Cancelled.Done → left ≡ 0 → (file : FileName) → these file → ¬ IsForeign b file → b.held file ≡ None)
+    cancels : (result ≡ Ok Cancelled.Done → lending a n ≡ lent → (pair : Image) × IsSettledAs b n pair) → ((pair : Image) → IsSettledAs a n pair → IsSettledAs b n pair) → (result ≡ Ok Cancelled.Done → left ≡ 0 → (file : FileName) → these file → ¬ IsForeign b file → b.held file ≡ None)
         → (result ≡ Ok Cancelled.Done → AllBut these left b b) → Cancels r c result store.unswept left (over store u) a b
-    cancels settled gone all_but = record {
+    cancels settled stays gone all_but = record {
       only = changes;
       files = files;
       holds = λ ok. held_now;
       settled = settled;
+      stays = stays;
       gone = gone;
       all_but = all_but;
       recovers = λ pending. recovers_apart idle r a held_idle refl n other below these apart b (beside_for n these a b changes) pending;
@@ -264,15 +265,15 @@ module _ (store : Held) (r : Repository) (a : Told) (holds : Holds store a r) (c
       space = λ pending. space_apart idle r a held_idle refl n other below these apart b (beside_for n these a b changes) pending;
     }
 
-    not_done : ¬ (result ≡ Ok Cancelled.Done) → Cancels r c result store.unswept left (over store u) a b
-    not_done not = cancels (λ done. absurd (not done)) (λ done. absurd (not done)) (λ done. absurd (not done))
+    not_done : ¬ (result ≡ Ok Cancelled.Done) → ((pair : Image) → IsSettledAs a n pair → IsSettledAs b n pair) → Cancels r c result store.unswept left (over store u) a b
+    not_done not stays = cancels (λ done. absurd (not done)) stays (λ done. absurd (not done)) (λ done. absurd (not done))
 
   nowhere : ChangesFor n these a a
   nowhere = for_only n these a a (only_nowhere a these) (keeps_itself a)
 
   -- the kill failed
   pub orphan_left : Cancels r c (Ok Cancelled.Orphan) store.unswept 0 (over store store.unswept) a a
-  orphan_left = not_done (Ok Cancelled.Orphan) a nowhere (keeps_itself a) store.unswept 0 holds.tables.unswept (λ done. absurd (cc (done)))
+  orphan_left = not_done (Ok Cancelled.Orphan) a nowhere (keeps_itself a) store.unswept 0 holds.tables.unswept (λ done. absurd (cc (done))) (λ pair is. is)
 
   pub orphan_stays : (store' : Held) (q : Repository) (now : Holds store' a q) → RecordsStay (image_records holds) (image_records now)
   orphan_stays = stays_apart a nowhere
@@ -287,6 +288,7 @@ module _ (store : Held) (r : Repository) (a : Told) (holds : Holds store a r) (c
 
     pub cut_off : Cancels r c (Err CancelFault.Ground) store.unswept 0 (over store store.unswept) a b
     cut_off = not_done (Err CancelFault.Ground) b cut_changes (keeps_ended a b n (Err e) settles) store.unswept 0 holds.tables.unswept (λ done. absurd (cc (done)))
+        (λ pair is. settled_stays n a b pair NoFile is settles.refused)
 
   -- or it was, and files were removed
   module _ (left : ℕ) (b d : Told) (settles : Settles n (Ok tt) a b) (sweeps : SweepsFiles these left b d) where
@@ -299,6 +301,7 @@ module _ (store : Held) (r : Repository) (a : Told) (holds : Holds store a r) (c
     pub swept_away : Cancels r c (Ok Cancelled.Done) store.unswept left (over store (unswept_now store left)) a d
     swept_away = cancels (Ok Cancelled.Done) d changes (keeps_on a b d (keeps_ended a b n (Ok tt) settles) (keeps_swept b d these left sweeps)) (unswept_now store left) left (unswept_is store r left holds.tables)
         (λ done was. (b.held, settled_stays n b d b.held these (settled_at n a b was settles) sweeps.only))
+        (λ pair is. settled_stays n b d pair these (is.0, settles.ok ∙ ap (after_settle b.held) is.1) sweeps.only)
         (λ done zero file this own. sweeps.gone zero file this (theirs file own))
         (λ done few. (let those = sweeps.all_but few in (those.0, those.1, λ file this own. those.2 file this (theirs file own))))
 

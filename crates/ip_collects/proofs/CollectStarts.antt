@@ -43,6 +43,7 @@ module _ (tells : Bool) (store : Held) (number : ℕ) (p : Repository) (of : IsO
       answered = λ r is kept. refused_answers r store number is fault (refusal r is);
       named = λ r is kept. tt;
       same_collection = λ err. refl;
+      unswept = refl;
       turned_down = λ down. refl;
       begun = λ r is cut. (let same : fault ≡ CollectFault.Ground = cc (cut) in absurd (subst (RefusesStart r number store) same (refusal r is)));
       wanted = λ r is want. (let same : fault ≡ CollectFault.Memory = cc (want) in subst (RefusesStart r number store) same (refusal r is));
@@ -82,11 +83,12 @@ module _ (tells : Bool) (store : Held) (number : ℕ) (p : Repository) (of : IsO
     abbrev Moment : Result (Unit {0}) CollectFault → Held → Type 0
     Moment result now = IsTrue tells → (r : Repository) (n : ℕ) → Holds store a r → IsStart r store n start → StartsCollection r start.job.attempt result now a b
 
-    cut_begins : (now : Held) → now.collection ≡ store.collection → Moment (Err CollectFault.Ground) now → BeginsCollecting tells number (Err CollectFault.Ground) store now a b
-    cut_begins now same moment = record {
+    cut_begins : (now : Held) → now.collection ≡ store.collection → now.unswept ≡ store.unswept → Moment (Err CollectFault.Ground) now → BeginsCollecting tells number (Err CollectFault.Ground) store now a b
+    cut_begins now same unswept moment = record {
       answered = λ r is kept. tt;
       named = λ r is kept. tt;
       same_collection = λ err. same;
+      unswept = unswept;
       turned_down = λ down. absurd down;
       begun = λ r is cut. (free r is, (plan r is).attempt);
       wanted = λ r is want. absurd (cc (want));
@@ -126,6 +128,7 @@ module _ (tells : Bool) (store : Held) (number : ℕ) (p : Repository) (of : IsO
         answered = λ r is kept. failed_answers r number store.collection idle (free r is).1 here idle (tables r is);
         named = λ r is kept. tt;
         same_collection = λ err. refl;
+        unswept = refl;
         turned_down = λ down. absurd down;
         begun = λ r is cut. absurd (cc (cut));
         wanted = λ r is want. absurd (cc (want));
@@ -156,6 +159,7 @@ module _ (tells : Bool) (store : Held) (number : ℕ) (p : Repository) (of : IsO
             (begun_answers r number store.collection idle (free r is).1 here idle (tables r is) start.job (started_phase r store number start kept' (free r is).1 (plan r is)) (begun_going r store number start is (plan r is)));
         named = named;
         same_collection = λ err. absurd (cc (err));
+        unswept = refl;
         turned_down = λ down. absurd down;
         begun = λ r is cut. absurd (cc (cut));
         wanted = λ r is want. absurd (cc (want));
@@ -187,7 +191,7 @@ module _ (tells : Bool) (store : Held) (number : ℕ) (p : Repository) (of : IsO
           subst (λ (s : Held). BeginsCollecting tells number (Ok name) store (running s some) a b) (sym is) (started_here name named (subst (λ (s : Held). Moment (Ok tt) s) is moment))
 
     -- of the two faults behind the plan
-    module _ (f : CollectFault) (now : Held) (collection : now.collection ≡ store.collection) (behind : IsBegun {A = Unit {0}} (Err f) → now ≡ begun store start) (moment : Moment (Err f) now)
+    module _ (f : CollectFault) (now : Held) (collection : now.collection ≡ store.collection) (unswept : now.unswept ≡ store.unswept) (behind : IsBegun {A = Unit {0}} (Err f) → now ≡ begun store start) (moment : Moment (Err f) now)
         (list : IsTrue tells → IsBegun {A = Unit {0}} (Err f) → (r : Repository) (n : ℕ) (held : Holds store a r) → IsStart r store n start → (image : Standing b.held) → image.records ≡ held.stands.standing.records ++ (store.slot.end, table_of r) ∷ []) where
       pub fault_begins : ◌≡◌ {A = Result (Unit {0}) CollectFault} (Err f) (Err CollectFault.Start) ⊎ ◌≡◌ {A = Result (Unit {0}) CollectFault} (Err f) (Err CollectFault.Ground) → BeginsCollecting tells number (Err f) store now a b
       fault_begins (inl e) =
@@ -196,4 +200,4 @@ module _ (tells : Bool) (store : Held) (number : ℕ) (p : Repository) (of : IsO
           subst (λ (x : CollectFault). BeginsCollecting tells number (Err x) store now a b) (sym same) (failed_begins (λ told. list told begins) now (behind begins) (subst (λ (x : CollectFault). Moment (Err x) now) same moment))
       fault_begins (inr e) =
           let same : f ≡ CollectFault.Ground = cc (e) in
-          subst (λ (x : CollectFault). BeginsCollecting tells number (Err x) store now a b) (sym same) (cut_begins now collection (subst (λ (x : CollectFault). Moment (Err x) now) same moment))
+          subst (λ (x : CollectFault). BeginsCollecting tells number (Err x) store now a b) (sym same) (cut_begins now collection unswept (subst (λ (x : CollectFault). Moment (Err x) now) same moment))

@@ -10,14 +10,14 @@ use Rattle.ip_spec.specs.declared.met.Met.{Met}
 use Rattle.ip_spec.specs.Repository.{Repository}
 use Rattle.ip_held.specs.declared.collection.Collection.{Collection}
 use Rattle.ip_held.specs.declared.held.Held.{Held}
-use Rattle.ip_held.specs.Held.{Holds}
+use Rattle.ip_held.specs.Held.{Holds, OwnsPair}
 use Rattle.ip_held.specs.Sweeping.{EndsFor}
 use Rattle.ip_collects.specs.declared.finishing.FinishFault.{FinishFault}
 use Rattle.ip_collects.specs.declared.finishing.Looked.{Looked}
 use Rattle.ip_collects.specs.Concluding.{ConcludesAs, asking, most_of}
 use Rattle.ip_collects.specs.Ending.{Goes}
 use Rattle.ip_collects.specs.Finishing.{FinishesBy, HasAnswer, IsAsked, IsQuiet, IsUndamaged, WorksStay, met_by_finish}
-use Rattle.ip_collects.specs.Judging.{IsBlamedIn}
+use Rattle.ip_collects.specs.Judging.{IsBlamedIn, IsDamagedIn}
 use Rattle.ip_collects.proofs.ClearEnds.{finish_clear}
 use Rattle.ip_collects.proofs.EndFronts.{finish_fronts}
 use Rattle.ip_collects.proofs.EndTied.{finish_tied, finishes_leaves, quiet_list}
@@ -32,6 +32,7 @@ module _ (tells wait : Bool) (child : Child) (result : Result Looked FinishFault
     (undamaged : IsTrue tells → (r : Repository) → Holds store a r → IsUndamaged result)
     (untouched : IsTrue tells → ¬ IsUndamaged result → (c : Collection) → store.collection ≡ Some c → EndsFor c.job.attempt NoFile a b)
     (blames : (at : ℕ) → IsErrOf result (FinishFault.Damaged at) → IsBlamedIn now.collection at)
+    (broken : IsTrue tells → OwnsPair a store.slot → (at : ℕ) → IsErrOf result (FinishFault.Damaged at) → IsDamagedIn b now.collection at)
     (works : IsTrue tells → HasAnswer result → (r q : Repository) (held : Holds store a r) (still : Holds now b q) → WorksStay held still) where
   abbrev met : Met
   met = met_by_finish child result left
@@ -51,6 +52,7 @@ module _ (tells wait : Bool) (child : Child) (result : Result Looked FinishFault
     undamaged = undamaged;
     untouched = untouched;
     blames = blames;
+    broken = broken;
     works_stay = works;
     clear = λ told has r held. finish_clear child (most_of wait) result met store now goes r a b held quiet (λ c reaped runs is. (_, (finishes told r held c reaped runs is).does)) has;
     tied = λ told has r q held still. finish_tied child (most_of wait) met store now a.held held.stands.standing still.stands.standing.records result (record {

@@ -30,7 +30,7 @@ use Rattle.ip_tree.specs.TreeView.{IsView}
 use Rattle.ip_tree.specs.declared.node.Stored.{Stored}
 use Rattle.ip_tree.specs.declared.tree.Tree as code
 use Rattle.ip_tree.proofs.Indexes.{no_some}
-use Rattle.ip_tree.proofs.MoreRecords.{view_stays}
+use Rattle.ip_tree.proofs.MoreRecords.{whole_same}
 use Rattle.ip_tree.proofs.PartsPut.{read_ascends}
 
 -- ---- parts
@@ -147,12 +147,9 @@ module _ (J K : ℕ → Option Record) (S : ℕ → Type 0) (keeps : (at : ℕ) 
     lawful = is.lawful;
     narrow = is.narrow;
     oldest = is.oldest;
-    known = λ p. is.known p ∙ sym (back.known p);
+    known = λ p. is.known p ∙ whole_same K J among (shown_root tree.root) v.map p.path p.indexes root;
+    below = is.below;
   }
     where
       root : RootIs K (shown_root tree.root) v.map
       root = root_kept (shown_root tree.root) v.map (λ p o e. stays p o (is.known p ∙ e)) is.root
-
-      -- the view with what the fewer records tell is one over those that there were
-      back : IsView J tree (record v { known = known_of K (shown_root tree.root) })
-      back = view_stays K J tree (record v { known = known_of K (shown_root tree.root) }) (record { root = root; lawful = is.lawful; narrow = is.narrow; oldest = is.oldest; known = λ p. refl }) among

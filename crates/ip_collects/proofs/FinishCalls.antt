@@ -3,12 +3,12 @@
 --     end_goes, end_loud, end_finishes, end_works      the child has ended
 --     goes_idle, goes_wait, goes_runs      nothing was heard of its end
 --     goes_cut, cut_finishes      it was heard, and its attempt could not be settled
---     goes_on, on_finishes, on_works, on_untouched, on_counts      it was, whether it was heard now or before
-use Rattle.std.proofs.Common.{◌≡◌, ◌≢◌, ◌≤◌, ◌⊎◌, inl, inr, ℕ, true, false, Some, None, Option, refl, sym, ◌∙◌, ap, subst}
+--     goes_on, on_finishes, on_works, on_owns, on_untouched, on_counts      it was, whether it was heard now or before
+use Rattle.std.proofs.Common.{◌≡◌, ◌≢◌, ◌≤◌, ◌⊎◌, inl, inr, ℕ, true, false, Some, None, Option, refl, sym, ◌∙◌, ap, subst, arith}
 use Rattle.std.specs.Prelude.{Result, Ok, Err, OnErr, IfSome, is_some}
 use Rattle.ip_base.specs.declared.exit.Exit.{Exit}
 use Rattle.ip_ground.specs.declared.names.FileName.{FileName}
-use Rattle.ip_ground.specs.declared.names.FileName.TheVariants.{Control}
+use Rattle.ip_ground.specs.declared.names.FileName.TheVariants.{Control, Mapping, Prefix}
 use Rattle.ip_ground.specs.Counts.{Noted}
 use Rattle.ip_ground.specs.declared.names.GroundFault.{GroundFault}
 use Rattle.ip_base.specs.declared.exit.Reaped.{Reaped}
@@ -36,7 +36,7 @@ use Rattle.ip_held.specs.Collecting.{Collects, IsOfChild, phase_of, child_of}
 use Rattle.ip_collects.specs.Ending.{Ends, EndsBy, FitsEnd, Goes, GoesOnAs, IsHeardIn, Listens, MayBeHeard, after_by, after_with}
 use Rattle.ip_collects.specs.Judging.{is_zero}
 use Rattle.ip_collects.specs.Finishing.{Concludes, CountsFinish, FinishesAs, FinishesBy, HasAnswer, IsAsked, IsCollected, IsKept, IsOver, IsQuiet, KeepsCollection, LookReplies, MayTouch, Slices, SlotBy, TurnsBy, WorksStay, conditions_by, difference_in, looked_at, looked_of, met_by_finish, repository_after}
-use Rattle.ip_held.specs.Held.{IsOf, Holds, image_records}
+use Rattle.ip_held.specs.Held.{IsOf, Holds, OwnsPair, image_records}
 use Rattle.ip_held.specs.Sweeping.{EndsFor}
 use Rattle.ip_held.specs.Work.{IsLawful, state_at}
 use Rattle.ip_held.proofs.Apart.{beside_only}
@@ -45,6 +45,7 @@ use Rattle.ip_collects.proofs.FinishEnds.{no_limit}
 use Rattle.ip_collects.proofs.FinishSpans.{Spared, atomic_front, atomic_still, spared_by}
 use Rattle.ip_collects.proofs.Ended.{ends_more, ends_on, ends_only}
 use Rattle.ip_collects.proofs.FinishTurns.{IsEnding, each_look, met_heard, met_of, repository_is, told_difference, turn_of, turned_heard, turns_end, turns_none, turns_runs, turns_wait}
+use Rattle.ip_held.proofs.Going.{phase_here}
 use Rattle.ip_held.proofs.KeptFiles.{keeps_on, keeps_store, nothing_else}
 use Rattle.ip_held.proofs.LeftImages.{swapped_front, swapped_still}
 use Rattle.ip_collects.proofs.WorksRemain.{works_remain}
@@ -156,6 +157,7 @@ module _ (store : Held) (c : Collection) (runs : store.collection ≡ Some c) (r
     quiet = λ is. no_quiet reaped.exit c left result ends.fits is;
     ended = inr (reaped, refl);
     wanted = λ is other heard. subst (λ (x : Reaped). is_zero x.exit) (same_reaped reaped other heard) (subst (FitsEnd reaped.exit c left) is ends.fits);
+    through = ends.through;
     held = child_behind reaped.exit reaped c left result now.collection kept ends.fits ends.goes_on;
     goes_on = λ is d other here heard.
         subst (λ (x : Collection). KeepsCollection x other now.collection) (same_running store.collection c d runs here)
@@ -253,6 +255,7 @@ module _ (store : Held) (most : ℕ) where
     quiet = λ is. refl;
     ended = inl tt;
     wanted = λ is. absurd (cc (is));
+    through = λ is. absurd (cc (is));
     held = refl;
     goes_on = λ is. absurd is;
     sliced = λ d here. tt;
@@ -287,6 +290,7 @@ module _ (store : Held) (most : ℕ) where
       quiet = λ is. refl;
       ended = inl tt;
       wanted = λ is. absurd (cc (is));
+      through = λ is. absurd (cc (is));
       held = refl;
       goes_on = λ is. absurd is;
       sliced = λ d here. tt;
@@ -311,6 +315,7 @@ module _ (store : Held) (most : ℕ) where
       quiet = λ is. refl;
       ended = inl tt;
       wanted = λ is. absurd (cc (is));
+      through = λ is. absurd (cc (is));
       held = refl;
       goes_on = λ is. absurd is;
       sliced = λ d here. tt;
@@ -360,6 +365,7 @@ module _ (store : Held) (c : Collection) (runs : store.collection ≡ Some c) (r
     quiet = λ is. absurd is;
     ended = inr (reaped, refl);
     wanted = λ is. absurd (cc (is));
+    through = λ is. absurd (cc (is));
     held = refl;
     goes_on = λ is. absurd is;
     sliced = λ d here. tt;
@@ -415,6 +421,7 @@ module _ (store : Held) (c : Collection) (runs : store.collection ≡ Some c) (r
           quiet = λ is. absurd (loud is);
           ended = inr (reaped, refl);
           wanted = goes.wanted;
+          through = goes.through;
           held = goes.held;
           goes_on = λ is d other here heard.
               subst (λ (x : Collection). KeepsCollection x other now.collection) (same_running store.collection c d runs here)
@@ -492,6 +499,16 @@ module _ (store : Held) (c : Collection) (runs : store.collection ≡ Some c) (r
 
           pub on_works : (q : Repository) (here : Holds now d q) → WorksStay held_b here → WorksStay held here
           on_works q here stay work v lawful = stay work v (subst (λ (rs : Records). IsLawful (present rs) r work v) (sym (span.same held_b.stands.standing)) lawful)
+
+  -- the live pair is no other's while the attempt is settled
+  pub on_owns : (r : Repository) → IsOf store r → (a b : Told) → Listens c.job.attempt a b → (heard : Held) → heard ≡ record store { collection = Some (record c { exit = Some reaped }) } → OwnsPair a store.slot → OwnsPair b heard.slot
+  on_owns r of a b listens heard is owns = subst (λ (s : Slot). OwnsPair b s) (sym (ap (λ (s : Held). s.slot) is)) (λ live. let pair = owns live in record {
+    mapping = (listens.only.beside.others (Mapping store.slot.live) (λ none. none) other).own pair.mapping;
+    prefix = (listens.only.beside.others (Prefix store.slot.live) (λ none. none) other).own pair.prefix;
+  })
+    where
+      other : store.slot.live ≢ c.job.attempt
+      other same = (let job = (phase_here store r c runs of).told in absurd (omega (arith, same, job.live, job.valid.live)))
 
   -- nothing changes behind damage, but that the attempt is settled
   pub on_untouched : (a b d : Told) → Listens c.job.attempt a b → ChangesOnly NoFile b d → EndsFor c.job.attempt NoFile a d

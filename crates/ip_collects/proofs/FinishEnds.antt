@@ -2,19 +2,23 @@
 --     given_up, swept_on, sweeps_on      the store before a sweep and behind it.      same_exit, some_exit      an exit that is kept
 --     ends_open, ends_cut      where the check is not through, and where a fault cut it short
 --     ends_rejected      where what its child wrote is rejected.      ends_refused, ends_collected      where the swap was refused, and where it was done
+--     rootless_blames, rootless_damaged      where damage is that the commit's record lies at 0
 --     counts_cut, counts_refused, counts_swept      what is counted.      undamaged_as      no damage was found
-use Rattle.std.proofs.Common.{◌≡◌, ℕ, ◌<◌, ◌≤◌, Some, None, Option, refl, sym, ◌∙◌, ap, subst}
-use Rattle.std.specs.Prelude.{IsSome, Result, Ok, Err, if◌then◌else◌, ◌==◌, ◌^◌, ◌-◌}
+use Rattle.std.proofs.Common.{◌≡◌, ◌≢◌, ◌⊎◌, inl, ℕ, ◌<◌, ◌≤◌, Some, None, Option, refl, sym, ◌∙◌, ap, subst}
+use Rattle.std.specs.Prelude.{IfSome, IsSome, IsSomeAnd, Result, Ok, Err, if◌then◌else◌, ◌==◌, ◌^◌, ◌-◌}
 use Rattle.ip_base.specs.declared.limit.TheConstants.{OFFSET_MAX}
 use Rattle.ip_base.specs.declared.limit.Limit.{Limit}
 use Rattle.ip_ground.specs.Counts.{Noted}
 use Rattle.ip_base.specs.declared.exit.Reaped.{Reaped}
 use Rattle.ip_ground.specs.Counts.{Counts, CountsLeft}
 use Rattle.ip_ground.specs.Told.{Told}
+use Rattle.ip_spec.specs.declared.reply.Difference.{Difference}
 use Rattle.ip_spec.specs.Repository.{Repository}
 use Rattle.ip_spec.specs.Step.{collected_at}
 use Rattle.ip_image.specs.declared.slot.Slot.{Slot}
 use Rattle.ip_check.specs.CheckView.{CheckView}
+use Rattle.ip_check.specs.Checking.{IsBlamed, IsBrokenIn}
+use Rattle.ip_check.specs.declared.check.Stage.TheVariants as Stage
 use Rattle.ip_collects.specs.declared.checking.Verdict.{Verdict}
 use Rattle.ip_held.specs.declared.collection.Collection.{Collection}
 use Rattle.ip_held.specs.declared.collection.Unswept.{Unswept}
@@ -25,7 +29,7 @@ use Rattle.ip_held.specs.declared.held.Held.{Held}
 use Rattle.ip_collects.specs.Ending.{Ends}
 use Rattle.ip_collects.specs.CollectFaults.{counted_finish}
 use Rattle.ip_collects.specs.Finishing.{CountsFinish, IsCollected, IsUndamaged, LimitsFinish, looked_at, looked_of, swapped_slot}
-use Rattle.ip_collects.specs.Judging.{FitsExit, IsCut, IsOpen, SlicesBy, is_zero, with_check}
+use Rattle.ip_collects.specs.Judging.{FindsNone, FitsExit, IsBlamedIn, IsCut, IsDamagedIn, IsOpen, IsRootless, IsRootlessIn, IsThrough, SlicesBy, is_zero, with_check}
 use Rattle.ip_held.specs.Held.{IsOf}
 use Rattle.ip_collects.specs.Swapping.{Accepts, IsSwapFault}
 use Rattle.ip_held.specs.Sweeping.{IsSwept, SweepsFiles, swept_to}
@@ -82,6 +86,32 @@ some_exit exit reaped is = subst (λ (o : Option Reaped). IsSome o) (sym is) ref
 
 -- ---- the ways out
 
+-- a check that is through with none has found no difference
+none_through : (o : Option Collection) → IsThrough o → FindsNone o
+none_through None through = absurd through
+none_through (Some c) through = by c.check through
+  where
+    by : (check : Option CheckView) → IsSomeAnd check (λ k. k.stage ≡ Stage.Through None) → IfSome check (λ k. (difference : Difference) → k.stage ≢ Stage.Through (Some difference))
+    by None is = absurd is
+    by (Some k) is = λ difference e. (let both = sym is ∙ e in absurd (cc both))
+
+-- and that its commit's record lies at 0
+pub rootless_blames : (o : Option Collection) (at : ℕ) → IsRootlessIn o at → IsBlamedIn o at
+rootless_blames None at is = absurd is
+rootless_blames (Some c) at is = by c.check is
+  where
+    by : (check : Option CheckView) → IsSomeAnd check (λ k. IsRootless c.job.horizon k at) → IsSomeAnd check (λ k. IsRootless c.job.horizon k at ⊎ IsBlamed k at)
+    by None is = absurd is
+    by (Some k) is = inl is
+
+pub rootless_damaged : (told : Told) (o : Option Collection) (at : ℕ) → IsRootlessIn o at → IsDamagedIn told o at
+rootless_damaged told None at is = absurd is
+rootless_damaged told (Some c) at is = by c.check is
+  where
+    by : (check : Option CheckView) → IsSomeAnd check (λ k. IsRootless c.job.horizon k at) → IsSomeAnd check (λ k. IsRootless c.job.horizon k at ⊎ IsBrokenIn told k at)
+    by None is = absurd is
+    by (Some k) is = inl is
+
 pub no_limit : (result : Result Looked FinishFault) (store : Held) → ((limit : Limit) → result ≡ Err (FinishFault.Limit limit) → ⊥) → ¬ IsCollected result → LimitsFinish result store
 no_limit result store none not = record { sequence = λ limit is. absurd (none limit is); enough = λ collected. absurd (not collected) }
 
@@ -91,6 +121,7 @@ module _ (store : Held) (c : Collection) (reaped : Reaped) (most : ℕ) (check :
       → Ends reaped.exit most c (Ok (Looked.Checking bytes)) 0 store mid
   ends_open bytes fits slices whole = record {
     fits = fits;
+    through = λ e. absurd (cc e);
     none = λ no. refl;
     goes_on = (check, ap (λ (s : Held). s.collection) is, looked);
     tables = λ r of has. tables r of;
@@ -101,9 +132,10 @@ module _ (store : Held) (c : Collection) (reaped : Reaped) (most : ℕ) (check :
     unswept = ap (λ (s : Held). s.unswept) is;
   }
 
-  pub ends_cut : (fault : FinishFault) → FitsExit reaped.exit (Err fault) → Ends reaped.exit most c (Err fault) 0 store mid
-  ends_cut FinishFault.Ground fits = record {
+  pub ends_cut : (fault : FinishFault) → FitsExit reaped.exit (Err fault) → (fault ≡ FinishFault.Memory → FindsNone mid.collection) → Ends reaped.exit most c (Err fault) 0 store mid
+  ends_cut FinishFault.Ground fits found = record {
     fits = fits.0;
+    through = λ e. absurd (cc e);
     none = λ no. refl;
     goes_on = (check, ap (λ (s : Held). s.collection) is, looked);
     tables = λ r of has. absurd has;
@@ -113,8 +145,9 @@ module _ (store : Held) (c : Collection) (reaped : Reaped) (most : ℕ) (check :
     slot = ap (λ (s : Held). s.slot) is;
     unswept = ap (λ (s : Held). s.unswept) is;
   }
-  ends_cut (FinishFault.Damaged at) fits = record {
+  ends_cut (FinishFault.Damaged at) fits found = record {
     fits = fits.0;
+    through = λ e. absurd (cc e);
     none = λ no. refl;
     goes_on = (check, ap (λ (s : Held). s.collection) is, looked);
     tables = λ r of has. absurd has;
@@ -124,8 +157,9 @@ module _ (store : Held) (c : Collection) (reaped : Reaped) (most : ℕ) (check :
     slot = ap (λ (s : Held). s.slot) is;
     unswept = ap (λ (s : Held). s.unswept) is;
   }
-  ends_cut FinishFault.Memory fits = record {
+  ends_cut FinishFault.Memory fits found = record {
     fits = fits.0;
+    through = λ e. found refl;
     none = λ no. refl;
     goes_on = (check, ap (λ (s : Held). s.collection) is, looked);
     tables = λ r of has. tables r of;
@@ -135,16 +169,17 @@ module _ (store : Held) (c : Collection) (reaped : Reaped) (most : ℕ) (check :
     slot = ap (λ (s : Held). s.slot) is;
     unswept = ap (λ (s : Held). s.unswept) is;
   }
-  ends_cut FinishFault.Idle fits = absurd fits.1
-  ends_cut FinishFault.Wait fits = absurd fits.1
-  ends_cut (FinishFault.Rejected rejection) fits = absurd fits.1
-  ends_cut (FinishFault.Limit limit) fits = absurd fits.1
+  ends_cut FinishFault.Idle fits found = absurd fits.1
+  ends_cut FinishFault.Wait fits found = absurd fits.1
+  ends_cut (FinishFault.Rejected rejection) fits found = absurd fits.1
+  ends_cut (FinishFault.Limit limit) fits found = absurd fits.1
 
   -- a sweep follows
   pub ends_rejected : (rejection : Rejection) (left : ℕ) (now : Held) → now ≡ record (with_check store c check) { collection = None; unswept = unswept_now store left } → FitsExit reaped.exit (Ok (Verdict.Rejected rejection))
       → Ends reaped.exit most c (Err (FinishFault.Rejected rejection)) left store now
   ends_rejected rejection left now now_is fits = subst (λ (s : Held). Ends reaped.exit most c (Err (FinishFault.Rejected rejection)) left store s) (sym now_is) (record {
     fits = fits;
+    through = λ e. absurd (cc e);
     none = λ no. absurd (no tt);
     goes_on = refl;
     tables = λ r of has. over_tables store r (unswept_now store left) (unswept_is store r left of) of;
@@ -157,9 +192,10 @@ module _ (store : Held) (c : Collection) (reaped : Reaped) (most : ℕ) (check :
 
   module _ (zero : is_zero reaped.exit) (now : Held) where
     -- it was asked for with some tables
-    pub ends_refused : (q : Repository) → IsOf store q → (fault : FinishFault) → IsSwapFault fault → ((r : Repository) → IsOf mid r → Accepts (Err fault) r c mid now) → Ends reaped.exit most c (Err fault) 0 store now
-    ends_refused q of FinishFault.Ground may accepts = (let same = accepts q (tables q of) ∙ is in record {
+    pub ends_refused : (q : Repository) → IsOf store q → (fault : FinishFault) → IsSwapFault fault → IsThrough mid.collection → ((r : Repository) → IsOf mid r → Accepts (Err fault) r c mid now) → Ends reaped.exit most c (Err fault) 0 store now
+    ends_refused q of FinishFault.Ground may through accepts = (let same = accepts q (tables q of) ∙ is in record {
       fits = zero;
+      through = λ e. absurd (cc e);
       none = λ no. refl;
       goes_on = (check, ap (λ (s : Held). s.collection) same, looked);
       tables = λ r of has. absurd has;
@@ -169,8 +205,9 @@ module _ (store : Held) (c : Collection) (reaped : Reaped) (most : ℕ) (check :
       slot = ap (λ (s : Held). s.slot) same;
       unswept = ap (λ (s : Held). s.unswept) same;
     })
-    ends_refused q of (FinishFault.Damaged at) may accepts = (let same = accepts q (tables q of) ∙ is in record {
+    ends_refused q of (FinishFault.Damaged at) may through accepts = (let same = accepts q (tables q of) ∙ is in record {
       fits = zero;
+      through = λ e. absurd (cc e);
       none = λ no. refl;
       goes_on = (check, ap (λ (s : Held). s.collection) same, looked);
       tables = λ r of has. absurd has;
@@ -180,8 +217,9 @@ module _ (store : Held) (c : Collection) (reaped : Reaped) (most : ℕ) (check :
       slot = ap (λ (s : Held). s.slot) same;
       unswept = ap (λ (s : Held). s.unswept) same;
     })
-    ends_refused q of FinishFault.Memory may accepts = (let same = accepts q (tables q of) ∙ is in record {
+    ends_refused q of FinishFault.Memory may through accepts = (let same = accepts q (tables q of) ∙ is in record {
       fits = zero;
+      through = λ e. subst (λ (s : Held). FindsNone s.collection) (sym (accepts q (tables q of))) (none_through mid.collection through);
       none = λ no. refl;
       goes_on = (check, ap (λ (s : Held). s.collection) same, looked);
       tables = λ p there has. subst (λ (s : Held). IsOf s p) (sym (accepts q (tables q of))) (tables p there);
@@ -191,11 +229,12 @@ module _ (store : Held) (c : Collection) (reaped : Reaped) (most : ℕ) (check :
       slot = ap (λ (s : Held). s.slot) same;
       unswept = ap (λ (s : Held). s.unswept) same;
     })
-    ends_refused q of (FinishFault.Limit Limit.Sequence) may accepts =
+    ends_refused q of (FinishFault.Limit Limit.Sequence) may through accepts =
         let got = accepts q (tables q of) in
         let same : now ≡ over store store.unswept = got.0 ∙ ap (λ (s : Held). record s { collection = None }) is in
         record {
           fits = (zero, refl);
+          through = λ e. absurd (cc e);
           none = λ no. refl;
           goes_on = ap (λ (s : Held). s.collection) same;
           tables = λ p there has. subst (λ (s : Held). IsOf s p) (sym same) (over_tables store p store.unswept there.unswept there);
@@ -205,15 +244,16 @@ module _ (store : Held) (c : Collection) (reaped : Reaped) (most : ℕ) (check :
           slot = ap (λ (s : Held). s.slot) same;
           unswept = ap (λ (s : Held). s.unswept) same;
         }
-    ends_refused q of (FinishFault.Limit _) may accepts = absurd may
-    ends_refused q of FinishFault.Idle may accepts = absurd may
-    ends_refused q of FinishFault.Wait may accepts = absurd may
-    ends_refused q of (FinishFault.Rejected rejection) may accepts = absurd may
+    ends_refused q of (FinishFault.Limit _) may through accepts = absurd may
+    ends_refused q of FinishFault.Idle may through accepts = absurd may
+    ends_refused q of FinishFault.Wait may through accepts = absurd may
+    ends_refused q of (FinishFault.Rejected rejection) may through accepts = absurd may
 
     pub ends_collected : (q : Repository) → IsOf store q → ((r : Repository) → IsOf mid r → Accepts (Ok tt) r c mid now) → (left : ℕ) (swept : Held) → swept ≡ record now { unswept = if left == 0 then swept_to now.slot else now.unswept }
         → Ends reaped.exit most c (Ok (Looked.Collected (record { floor = now.slot.floor; left = left }))) left store swept
     ends_collected q of accepts left swept swept_is = subst (λ (s : Held). Ends reaped.exit most c (Ok (Looked.Collected (record { floor = now.slot.floor; left = left }))) left store s) (sym swept_is) (record {
       fits = (zero, ap (λ (n : ℕ). record { floor = n; left = left }) (ap (λ (s : Slot). s.floor) slot_is));
+      through = λ e. absurd (cc e);
       none = λ no. absurd (no tt);
       goes_on = got.1;
       tables = λ p there has. (let one = accepts p (tables p there) in

@@ -5,10 +5,10 @@
 --     over_here      the records below the job's end are those of its check
 --     begun_next      the check that begins.      none_looked      none was kept.      same_one, has_exit, put_check      the collection that keeps it
 --     sliced_tables, sliced_holds, sliced_says, slices, looks_on      behind a slice of it.      begins_over, begins_checking      what a slice asks
---     zero_fits, ends_through, not_open, no_damage, counts_check      what an answer of it says
+--     zero_fits, ends_through, not_open, no_damage, blames_check, breaks_check, memory_check, counts_check      what an answer of it says.      check_readable      where the live pair is no other's
 use Rattle.std.proofs.Common.{◌≡◌, ◌≢◌, ◌⊎◌, inl, inr, ℕ, ◌+◌, ◌-◌, ◌^◌, ◌<◌, ◌≤◌, pos, [], Option, Some, None, true, refl, sym, ◌∙◌, ap, subst, arith}
 use Rattle.std.proofs.lemmas.Bool.{false≢true}
-use Rattle.std.specs.Prelude.{Result, Ok, Err, IsErrOf, IsSome, IfSome, IfOk, OnOk, is_some}
+use Rattle.std.specs.Prelude.{Result, Ok, Err, IsErr, IsErrOf, IsSome, IfSome, IfOk, OnOk, is_some}
 use Rattle.ip_base.specs.declared.memory.Memory.{Memory}
 use Rattle.ip_ground.specs.declared.names.FileName.{FileName}
 use Rattle.ip_ground.specs.declared.names.FileName.TheVariants.{Mapping, Prefix}
@@ -19,9 +19,10 @@ use Rattle.ip_base.specs.declared.exit.Reaped.{Reaped}
 use Rattle.ip_ground.specs.Calls.{Settles}
 use Rattle.ip_ground.specs.Counts.{Counts}
 use Rattle.ip_ground.specs.Contents.{Image}
-use Rattle.ip_ground.specs.Told.{Told, NoFile, ChangesOnly}
+use Rattle.ip_ground.specs.Told.{Told, IsForeign, NoFile, ChangesOnly}
 use Rattle.ip_ground.proofs.Lending.{own_settled, settled_at}
 use Rattle.ip_spawn.specs.declared.job.Job.{Job}
+use Rattle.ip_spec.specs.declared.reply.Difference.{Difference}
 use Rattle.ip_spec.specs.Repository.{Repository}
 use Rattle.ip_spec.specs.TreeAt.{Records, present}
 use Rattle.ip_image.specs.declared.layout.Layout.{Layout}
@@ -32,13 +33,15 @@ use Rattle.ip_image.specs.Slot.{layout_of}
 use Rattle.ip_image.proofs.CoreTies.{collection_ends}
 use Rattle.ip_image.proofs.OneRepository.{all_records}
 use Rattle.ip_space.specs.SpaceView.{SpaceView, IsReadable, bare, grown, records_of}
+use Rattle.ip_space.proofs.Stayed.{byte_stays, only_looks}
 use Rattle.ip_keep.specs.Whole.{AreRecords}
 use Rattle.ip_keep.proofs.RunsApart.{apart_few, apart_total}
 use Rattle.ip_check.specs.CheckView.{CheckView}
-use Rattle.ip_check.specs.Checking.{Advances, EndsAs, IsBlamed, IsCheck, IsChecking, IsSpaceOf, IsVerdict, SameCheck, Says, begun, looked_by}
+use Rattle.ip_check.specs.Checking.{Advances, EndsAs, IsBlamed, IsBrokenAt, IsBrokenIn, IsCheck, IsChecking, IsSpaceOf, IsVerdict, SameCheck, Says, begun, looked_by}
 use Rattle.ip_check.specs.Faults.{IsUndamaged as IsCheckUndamaged, counted_check}
 use Rattle.ip_check.specs.Going.{IsOver}
 use Rattle.ip_check.specs.declared.check.Outcome.{Outcome}
+use Rattle.ip_check.specs.declared.check.Stage.{Stage}
 use Rattle.ip_check.specs.declared.fault.CheckFault.{CheckFault}
 use Rattle.ip_held.specs.declared.collection.Collection.{Collection}
 use Rattle.ip_held.specs.declared.held.Held.{Held}
@@ -46,8 +49,8 @@ use Rattle.ip_held.specs.Collecting.{Collects, HasEnded, IsGoing, IsOfChild, IsP
 use Rattle.ip_collects.specs.CollectFaults.{counted_finish}
 use Rattle.ip_collects.specs.Finishing.{IsUndamaged, looked_at, looked_of}
 use Rattle.ip_collects.specs.declared.finishing.FinishFault.{FinishFault}
-use Rattle.ip_collects.specs.Judging.{EndsCheck, FitsExit, IsBlamedIn, IsCheckOf, IsNextCheck, IsOpen, SlicesBy, TellsVerdict, verdict_by, with_check}
-use Rattle.ip_held.specs.Held.{IsOf, Holds}
+use Rattle.ip_collects.specs.Judging.{EndsCheck, FindsNone, FitsExit, IsBlamedIn, IsCheckOf, IsDamagedIn, IsNextCheck, IsOpen, SlicesBy, TellsVerdict, verdict_by, with_check}
+use Rattle.ip_held.specs.Held.{IsOf, Holds, OwnsPair}
 use Rattle.ip_held.specs.Sweeping.{IsApart, ChangesBeside}
 use Rattle.ip_held.proofs.Apart.{beside_for, holds_apart, list_apart}
 use Rattle.ip_collects.proofs.Cancels.{below, for_settle, other}
@@ -320,13 +323,54 @@ no_damage (Err (CheckFault.Damaged at)) left none = none at refl
 no_damage (Err CheckFault.Memory) left none = tt
 
 -- damage is where the check found it
+damaged_check : (P : ℕ → Type 0) (result : Result Outcome CheckFault) (left : ℕ) → ((at : ℕ) → IsErrOf result (CheckFault.Damaged at) → P at) → (at : ℕ) → IsErrOf (verdict_by result left) (FinishFault.Damaged at) → P at
+damaged_check P (Ok Outcome.More) left says at is = absurd (cc (is))
+damaged_check P (Ok Outcome.Valid) left says at is = absurd (cc (is))
+damaged_check P (Ok (Outcome.Differs difference)) left says at is = absurd (cc (is))
+damaged_check P (Err CheckFault.Ground) left says at is = absurd (cc (is))
+damaged_check P (Err (CheckFault.Damaged place)) left says at is = says at (let same : place ≡ at = cc (is) in ap (λ (n : ℕ). Err (CheckFault.Damaged n)) same)
+damaged_check P (Err CheckFault.Memory) left says at is = absurd (cc (is))
+
 pub blames_check : (c : Collection) (now : CheckView) (result : Result Outcome CheckFault) (left : ℕ) → ((at : ℕ) → IsErrOf result (CheckFault.Damaged at) → IsBlamed now at) → (at : ℕ) → IsErrOf (verdict_by result left) (FinishFault.Damaged at) → IsBlamedIn (Some (record c { check = Some now })) at
-blames_check c now (Ok Outcome.More) left blames at is = absurd (cc (is))
-blames_check c now (Ok Outcome.Valid) left blames at is = absurd (cc (is))
-blames_check c now (Ok (Outcome.Differs difference)) left blames at is = absurd (cc (is))
-blames_check c now (Err CheckFault.Ground) left blames at is = absurd (cc (is))
-blames_check c now (Err (CheckFault.Damaged place)) left blames at is = inr (blames at (let same : place ≡ at = cc (is) in ap (λ (n : ℕ). Err (CheckFault.Damaged n)) same))
-blames_check c now (Err CheckFault.Memory) left blames at is = absurd (cc (is))
+blames_check c now result left blames at is = inr (damaged_check (IsBlamed now) result left blames at is)
+
+-- and what is wrong there is so still behind calls that change no file
+broken_on : (a b : Told) (k : CheckView) (at : ℕ) → ChangesOnly NoFile a b → IsReadable a k.keep.space → IsBrokenIn a k at → IsBrokenIn b k at
+broken_on a b k at only readable = turned k.stage
+  where
+    turned : (s : Stage) → IsBrokenAt a k at s → IsBrokenAt b k at s
+    turned Stage.Keeping broken = λ rec there. broken rec (sym ((only_looks a b only k.keep.space).records readable at) ∙ there)
+    turned (Stage.Comparing place) broken = record {
+      records = broken.records;
+      linked = broken.linked;
+      gap = broken.gap;
+      inside = broken.inside;
+      missing = byte_stays a b only k.keep.space readable (at + broken.gap) ∙ broken.missing;
+    }
+    turned (Stage.Through told) broken = broken
+
+-- a check's space is readable where the live pair is no other's
+pub check_readable : (store : Held) (r : Repository) (c : Collection) (k : CheckView) (told : Told) → IsOf store r → OwnsPair told store.slot → IsCheckOf c store.space k → IsReadable told k.keep.space
+check_readable store r c k told of owns is = subst (IsReadable told) (sym is.space) (record {
+  own = λ some. subst (λ (n : ℕ). ¬ IsForeign told (Prefix n)) (sym live) (owns (λ none. some (live ∙ none))).prefix;
+  none = λ none. of.space.runs (sym live ∙ none);
+  kept = none_current (records_of told (bare (grown store.space c.job.end))) [] refl;
+})
+  where
+    live : store.space.layout.live ≡ store.slot.live
+    live = ap (λ (l : Layout). l.live) of.space.layout
+
+pub breaks_check : (c : Collection) (k now : CheckView) (a b : Told) → ChangesOnly NoFile a b → IsReadable a k.keep.space → now.keep.space ≡ k.keep.space → (result : Result Outcome CheckFault) (left : ℕ) → ((at : ℕ) → IsErrOf result (CheckFault.Damaged at) → IsBrokenIn a now at)
+    → (at : ℕ) → IsErrOf (verdict_by result left) (FinishFault.Damaged at) → IsDamagedIn b (Some (record c { check = Some now })) at
+breaks_check c k now a b only readable same result left breaks at is =
+    inr (damaged_check (IsBrokenIn b now) result left (λ place damaged. broken_on a b now place only (subst (IsReadable a) (sym same) readable) (breaks place damaged)) at is)
+
+-- where memory was wanted there is no verdict
+pub memory_check : (c : Collection) (now : CheckView) (result : Result Outcome CheckFault) (left : ℕ) → (IsErr result → (told : Option Difference) → now.stage ≢ Stage.Through told) → verdict_by result left ≡ Err FinishFault.Memory → FindsNone (Some (record c { check = Some now }))
+memory_check c now (Ok Outcome.More) left unsaid is = absurd (cc (is))
+memory_check c now (Ok Outcome.Valid) left unsaid is = absurd (cc (is))
+memory_check c now (Ok (Outcome.Differs difference)) left unsaid is = absurd (cc (is))
+memory_check c now (Err fault) left unsaid is = λ difference. unsaid refl (Some difference)
 
 pub counts_check : (result : Result Outcome CheckFault) (left : ℕ) (d e : Noted) → Counts counted_check result d e → Counts counted_finish (verdict_by result left) d e
 counts_check (Ok Outcome.More) left d e counts = counts

@@ -71,6 +71,8 @@ pub record Cancels (r : Repository) (c : Collection) (result : Result Cancelled 
   pub holds : IsOk result → Holds store new r
   -- the attempt is settled, so that no child changes its files from then on
   pub settled : result ≡ Ok Cancelled.Done → lending old c.job.attempt ≡ lent → (pair : Image) × IsSettledAs new c.job.attempt pair
+  -- one that was settled before stays so, by what its files held then
+  pub stays : (pair : Image) → IsSettledAs old c.job.attempt pair → IsSettledAs new c.job.attempt pair
   -- where no removal failed all is gone that a sweep may remove, but for files of attempts that others may still write
   pub gone : result ≡ Ok Cancelled.Done → left ≡ 0 → (file : FileName) → IsSwept store.slot u file → ¬ IsForeign new file → new.held file ≡ None
   -- and else all but so many

@@ -17,13 +17,13 @@ use Rattle.ip_held.specs.declared.collection.Collection.{Collection}
 use Rattle.ip_held.specs.declared.held.Held.{Held}
 use Rattle.ip_held.specs.Clear.{KeepsClear, ClearsAll}
 use Rattle.ip_held.specs.Fronts.{LeavesFront}
-use Rattle.ip_held.specs.Held.{IsOf, Holds}
+use Rattle.ip_held.specs.Held.{IsOf, Holds, OwnsPair}
 use Rattle.ip_held.specs.Sweeping.{EndsFor}
 use Rattle.ip_held.specs.Tie.{IsTied}
 use Rattle.ip_collects.specs.CollectEvents.{ending, finish_events}
 use Rattle.ip_collects.specs.Ending.{AwaitsChild, Goes, SeesChild}
 use Rattle.ip_collects.specs.Finishing.{Concludes, FinishesBy, HasAnswer, IsAsked, IsSweptBehind, IsUndamaged, LookReplies, WorksStay, conditions_by}
-use Rattle.ip_collects.specs.Judging.{IsBlamedIn}
+use Rattle.ip_collects.specs.Judging.{IsBlamedIn, IsDamagedIn}
 use Rattle.ip_collects.specs.declared.finishing.FinishFault.{FinishFault}
 use Rattle.ip_collects.specs.declared.finishing.Looked.{Looked}
 use Rattle.ip_collects.specs.declared.finishing.TheConstants.{LOOKS}
@@ -51,6 +51,8 @@ pub record ConcludesAs (tells wait : Bool) (result : Result Looked FinishFault) 
   -- Behind damage no file changes, and where it was found is known.
   pub untouched : IsTrue tells → ¬ IsUndamaged result → (c : Collection) → store.collection ≡ Some c → EndsFor c.job.attempt NoFile old new
   pub blames : (at : ℕ) → IsErrOf result (FinishFault.Damaged at) → IsBlamedIn now.collection at
+  -- and where no child changes the live pair, what is wrong there
+  pub broken : IsTrue tells → OwnsPair old store.slot → (at : ℕ) → IsErrOf result (FinishFault.Damaged at) → IsDamagedIn new now.collection at
   pub works_stay : IsTrue tells → HasAnswer result → (r q : Repository) (held : Holds store old r) (still : Holds now new q) → WorksStay held still
   -- What was cleared stays so, and behind a sweep that left nothing all is.
   pub clear : IsTrue tells → HasAnswer result → (r : Repository) → Holds store old r → KeepsClear store now old new × ClearsAll (IsSweptBehind result) met.left store now old new

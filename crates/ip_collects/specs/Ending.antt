@@ -37,7 +37,7 @@ use Rattle.ip_collects.specs.declared.finishing.Rejection.TheVariants as Rejecti
 use Rattle.ip_held.specs.declared.held.Held.{Held}
 use Rattle.ip_held.specs.Collecting.{child_of}
 use Rattle.ip_collects.specs.Finishing.{LookReplies, Concludes, HasAnswer, IsAsked, IsChecking, IsCollected, IsKept, IsOver, IsQuiet, IsSweptBehind, FinishesAs, KeepsCollection, LimitsFinish, SlotBy, Slices, child_reaped, child_seen, conditions_by, looked_at, looked_of, met_by_finish, unswept_by}
-use Rattle.ip_collects.specs.Judging.{FitsRejection, is_zero}
+use Rattle.ip_collects.specs.Judging.{FindsNone, FitsRejection, is_zero}
 use Rattle.ip_held.specs.StandsBy.{LeavesSwapped}
 use Rattle.ip_held.specs.Held.{IsOf, Holds}
 use Rattle.ip_held.specs.Sweeping.{EndsFor, KeepsFiles}
@@ -99,6 +99,7 @@ after_by result r c = r
 
 pub record Ends (exit : Exit) (most : ℕ) (c : Collection) (result : Result Looked FinishFault) (left : ℕ) (store now : Held) : Type 0 where
   pub fits : FitsEnd exit c left result
+  pub through : result ≡ Err FinishFault.Memory → FindsNone now.collection
   pub none : ¬ IsSweptBehind result → left ≡ 0
   pub goes_on : GoesOnAs result c now.collection
   pub tables : (r : Repository) → IsOf store r → HasAnswer result → IsOf now (after_by result r c)
@@ -151,6 +152,8 @@ pub record Goes (child : Child) (most : ℕ) (result : Result Looked FinishFault
   pub held : child_of now.collection ≡ held_behind child (child_of store.collection)
   -- memory is wanted only where what it wrote is looked at
   pub wanted : result ≡ Err FinishFault.Memory → (reaped : Reaped) → child ≡ Child.Ended reaped → is_zero reaped.exit
+  -- and never once the check is through with a difference
+  pub through : result ≡ Err FinishFault.Memory → FindsNone now.collection
   -- how the child ended is kept where it is not over, and so is the check
   pub goes_on : IsKept result → (c : Collection) (reaped : Reaped) → store.collection ≡ Some c → child ≡ Child.Ended reaped → KeepsCollection c reaped now.collection
   pub sliced : (c : Collection) → store.collection ≡ Some c → Slices most c result now.collection

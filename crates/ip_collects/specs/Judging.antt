@@ -4,20 +4,23 @@
 --     IsThrough now      a check is kept that has found the pair valid
 --     SlicesBy most c result now      what a slice leaves that is not the last.      IsOpen result      the check is not through
 --     TellsVerdict records c told result      what the verdict says of the files
---     IsCut result      the call was not answered by a verdict.      IsBlamedIn now at      where damage may be found: at the commit's record, or at one that its check looks at
+--     IsCut fault      it is one of a check
+--     IsRootless horizon check at, IsRootlessIn now at      the check is through, and the commit's record lies where none can.      IsBlamedIn now at      where damage may be found: there, or at a record that the check looks at.      IsDamagedIn told now at      and what is wrong with it
+--     FindsNone now      the check that is kept, if one is, is not through with a difference
 --     verdict_by outcome left      what an answer of the check says
 --     IsCheckOf c over k      a check of a collection's files, over a store's space.      IsNextCheck c over k      the one that goes on
-use Rattle.std.specs.Prelude.{◌≡◌, ◌⊎◌, ℕ, pos, Option, Some, None, Result, Ok, Err, IsSomeAnd, IfSome}
+use Rattle.std.specs.Prelude.{◌≡◌, ◌≢◌, ◌⊎◌, ℕ, pos, Option, Some, None, Result, Ok, Err, IsSomeAnd, IfSome}
 use Rattle.ip_base.specs.declared.exit.Exit.{Exit}
 use Rattle.ip_base.specs.declared.exit.Exit.TheVariants as Exit
 use Rattle.ip_ground.specs.Contents.{Image}
 use Rattle.ip_ground.specs.Told.{Told}
+use Rattle.ip_spec.specs.declared.reply.Difference.{Difference}
 use Rattle.ip_spec.specs.TreeAt.{Records}
 use Rattle.ip_image.specs.Collection.{Found, found_in}
 use Rattle.ip_space.specs.SpaceView.{SpaceView, bare, grown}
 use Rattle.ip_keep.specs.Whole.{AreRecords}
 use Rattle.ip_check.specs.CheckView.{CheckView}
-use Rattle.ip_check.specs.Checking.{IsBlamed, IsCheck, IsChecking, IsVerdict, looked_by}
+use Rattle.ip_check.specs.Checking.{IsBlamed, IsBrokenIn, IsCheck, IsChecking, IsVerdict, looked_by}
 use Rattle.ip_check.specs.declared.check.Outcome.{Outcome}
 use Rattle.ip_check.specs.declared.check.Outcome.TheVariants as Outcome
 use Rattle.ip_check.specs.declared.fault.CheckFault.{CheckFault}
@@ -41,9 +44,22 @@ IsCut (FinishFault.Damaged at) = Unit {0}
 IsCut FinishFault.Memory = Unit {0}
 IsCut fault = ⊥
 
+-- a commit's record never lies at 0, since its root lies below it
+abbrev pub IsRootless : ℕ → CheckView → ℕ → Type 0
+IsRootless horizon check at = (at ≡ 0) × (horizon ≡ 0) × (check.stage ≡ Stage.Through None)
+
 -- the collection that is kept, and the check that it keeps
+abbrev pub IsRootlessIn : Option Collection → ℕ → Type 0
+IsRootlessIn now at = IsSomeAnd now (λ c. IsSomeAnd c.check (λ k. IsRootless c.job.horizon k at))
+
 abbrev pub IsBlamedIn : Option Collection → ℕ → Type 0
-IsBlamedIn now at = IsSomeAnd now (λ c. (c.job.horizon ≡ at) ⊎ IsSomeAnd c.check (λ k. IsBlamed k at))
+IsBlamedIn now at = IsSomeAnd now (λ c. IsSomeAnd c.check (λ k. IsRootless c.job.horizon k at ⊎ IsBlamed k at))
+
+abbrev pub IsDamagedIn : Told → Option Collection → ℕ → Type 0
+IsDamagedIn told now at = IsSomeAnd now (λ c. IsSomeAnd c.check (λ k. IsRootless c.job.horizon k at ⊎ IsBrokenIn told k at))
+
+abbrev pub FindsNone : Option Collection → Type 0
+FindsNone now = IsSomeAnd now (λ c. IfSome c.check (λ k. (difference : Difference) → k.stage ≢ Stage.Through (Some difference)))
 
 abbrev pub FitsRejection : Exit → Rejection → Type 0
 FitsRejection exit (Rejection.Exit e) = (e ≡ exit) × ¬ is_zero exit

@@ -175,6 +175,8 @@ pub record BeginsCollecting (tells : Bool) (number : ℕ) (result : Result Hash 
   pub answered : (r : Repository) → IsOf store r → IsTrue (is_retained r number) → Replies r result (AnswersStart r number store.collection (met_by_start result) now)
   pub named : (r : Repository) → IsOf store r → IsTrue (is_retained r number) → IfOk result (λ name. name ≡ name_at r number)
   pub same_collection : IsErr result → now.collection ≡ store.collection
+  -- what is unswept is so still
+  pub unswept : now.unswept ≡ store.unswept
   pub turned_down : IsTurnedDown result → now ≡ store
   -- Files are only touched where no collection runs, no branch is below the commit, and there is an attempt left.
   pub begun : (r : Repository) → IsOf store r → IsErrOf result CollectFault.Ground → IsFree r number store × (store.slot.next_attempt < OFFSET_MAX)

@@ -45,8 +45,8 @@ impl From<GroundFault> for CancelFault {
     }
 }
 
-/// Gives the collection up that runs: its child is killed, and the files of its attempt are removed, with all others that nobody needs. It takes no memory. After `Ground` the store may not be used any
-/// more.
+/// Gives the collection up that runs: its child is killed, and the files of its attempt are removed, with all others that nobody needs. It takes no memory. What was met is put into `met`: whether
+/// the kill failed, and how many removals did. After `Ground` the store may not be used any more.
 pub fn cancel<G: Ground, P: Spawner>(
     store: &mut Held,
     met: &mut Met,

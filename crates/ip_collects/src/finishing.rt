@@ -11,8 +11,8 @@ ghost use Rattle.ip_held.specs.Collecting.{child_of};
 ghost use Rattle.ip_collects.specs.Concluding.{AsksChild, ConcludesAs};
 ghost use Rattle.ip_collects.specs.Ending.{Ends, EndsBy, Goes, IsHeardIn, Listens, MayBeHeard, held_behind};
 ghost use Rattle.ip_collects.specs.Finishing.{fault_by, met_by_finish, HasAnswer, IsAsked, IsUndamaged, IsQuiet, CountsFinish, FinishesBy, WorksStay};
-ghost use Rattle.ip_collects.specs.Judging.{IsBlamedIn};
-ghost use Rattle.ip_held.specs.Held.{IsOf, Holds};
+ghost use Rattle.ip_collects.specs.Judging.{IsBlamedIn, IsDamagedIn};
+ghost use Rattle.ip_held.specs.Held.{IsOf, Holds, OwnsPair};
 ghost use Rattle.ip_held.specs.Sweeping.{EndsFor};
 ghost use Rattle.ip_collects.specs.declared.finishing.FinishFault.TheVariants as FinishFault;
 ghost use Rattle.ip_collects.specs.declared.finishing.Looked.TheVariants as Looked;
@@ -40,13 +40,14 @@ pub struct Collected {
     pub left: u64,
 }
 
-/// What a look gave.
+/// What a look gave, or a finish, which gives `Collected` alone.
 #[derive(Clone, Copy, Debug, PartialEq, Eq)]
 pub enum Looked {
     /// The child runs, as far as was seen.
     Running,
     /// It has ended, and the check is not through: so many bytes are left from the first record that was not looked at to the job's end.
     Checking(u64),
+    /// The pair was accepted.
     Collected(Collected),
 }
 
@@ -197,6 +198,7 @@ fn judged<G: Ground>(
     ensures undamaged { IsTrue G.tells → (r : Repository) → Holds store.old (G.told outside.old) r → IsUndamaged result.0 }
     ensures untouched { IsTrue G.tells → ¬ IsUndamaged result.0 → ChangesOnly NoFile (G.told outside.old) (G.told outside.new) }
     ensures blames { (at : ℕ) → IsErrOf result.0 (FinishFault.Damaged at) → IsBlamedIn store.new.collection at }
+    ensures broken { IsTrue G.tells → OwnsPair (G.told outside.old) store.old.slot → (at : ℕ) → IsErrOf result.0 (FinishFault.Damaged at) → IsDamagedIn (G.told outside.new) store.new.collection at }
     ensures counts { CountsFinish result.0 result.1 (G.counts_of outside.old) (G.counts_of outside.new) }
 {
     match judge(store, alloc, outside, reaped.exit, most) {
@@ -236,6 +238,7 @@ fn goes<G: Ground>(
     ensures undamaged { IsTrue G.tells → (r : Repository) → Holds store.old (G.told outside.old) r → IsUndamaged result.0 }
     ensures untouched { IsTrue G.tells → ¬ IsUndamaged result.0 → (c : Collection) → store.old.collection ≡ Some c → EndsFor c.job.attempt NoFile (G.told outside.old) (G.told outside.new) }
     ensures blames { (at : ℕ) → IsErrOf result.0 (FinishFault.Damaged at) → IsBlamedIn store.new.collection at }
+    ensures broken { IsTrue G.tells → OwnsPair (G.told outside.old) store.old.slot → (at : ℕ) → IsErrOf result.0 (FinishFault.Damaged at) → IsDamagedIn (G.told outside.new) store.new.collection at }
     ensures works_stay { IsTrue G.tells → HasAnswer result.0 → (r q : Repository) (held : Holds store.old (G.told outside.old) r) (now : Holds store.new (G.told outside.new) q) → WorksStay held now }
     ensures counts { CountsFinish result.0 result.1 (G.counts_of outside.old) (G.counts_of outside.new) }
 {
@@ -282,7 +285,8 @@ fn asked<P: Spawner>(store: &Held, spawner: &mut P, wait: bool) -> Child
 /// Asks for the end of the child, unless it was reaped before: `wait` waits for it and then makes the whole check of what it wrote; else it looks, and checks
 /// a slice of records. Where it ended with code 0 and the files are the valid pair, the store gives up the commits below the collection's and
 /// reads from the pair what lies below it; else the collection is over and nothing is given up. Then what nobody needs is swept away. While
-/// the child runs nothing is done, and no memory is taken. After `Ground` and `Damaged` the store may not be used any more.
+/// the child runs nothing is done, and no memory is taken. What was met is put into `met`: what was heard of the child, what is left to check, how many
+/// removals failed, which limit was met, and whether memory was refused. After `Ground` and `Damaged` the store may not be used any more.
 pub fn conclude<G: Ground, P: Spawner>(
     store: &mut Held,
     met: &mut Met,

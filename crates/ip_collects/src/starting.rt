@@ -171,6 +171,7 @@ fn begin<G: Ground, P: Spawner>(
     requires child { P.held spawner.old ≡ None }
     ensures behind { IsBegun result → store.new ≡ begun store.old start.now }
     ensures same_collection { store.new.collection ≡ store.old.collection }
+    ensures unswept { store.new.unswept ≡ store.old.unswept }
     ensures fault { IsErr result → (result ≡ Err CollectFault.Start) ⊎ (result ≡ Err CollectFault.Ground) }
     ensures child { P.held spawner.new ≡ (if is_ok result then Some start.now.job.attempt else None) }
     ensures unasked { IsErrOf result CollectFault.Ground → spawner.new ≡ spawner.old }

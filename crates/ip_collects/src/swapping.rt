@@ -18,7 +18,7 @@ ghost use Rattle.ip_check.specs.Checking.{IsCheck, IsVerdict};
 ghost use Rattle.ip_held.specs.Collecting.{until};
 ghost use Rattle.ip_collects.specs.CollectFaults.{counted_finish};
 ghost use Rattle.ip_collects.specs.Finishing.{IsUndamaged, swapped_slot};
-ghost use Rattle.ip_collects.specs.Judging.{IsBlamedIn, IsThrough};
+ghost use Rattle.ip_collects.specs.Judging.{IsRootlessIn, IsThrough};
 ghost use Rattle.ip_publish.specs.Publishing.{TurnsGate};
 ghost use Rattle.ip_held.specs.Held.{IsOf, Holds};
 ghost use Rattle.ip_collects.specs.Swapping.{Accepts, AcceptsAs, IsSwap, IsSwapFault, IsTurnedDown, RefusesSwap, SwapsTables, SyncsPair, turned_down};
@@ -190,7 +190,7 @@ pub(crate) fn accept<G: Ground>(
     ensures unchanged { IsTurnedDown result → outside.new ≡ outside.old }
     ensures undamaged { IsTrue G.tells → (r : Repository) → Holds store.old (G.told outside.old) r → IsUndamaged result }
     ensures untouched { IsTrue G.tells → ¬ IsUndamaged result → ChangesOnly NoFile (G.told outside.old) (G.told outside.new) }
-    ensures blames { (at : ℕ) → IsErrOf result (FinishFault.Damaged at) → IsBlamedIn store.new.collection at }
+    ensures rootless { (at : ℕ) → IsErrOf result (FinishFault.Damaged at) → IsRootlessIn store.new.collection at }
     ensures counts { Counts counted_finish result (G.counts_of outside.old) (G.counts_of outside.new) }
 {
     let swap = match plan_swap(store, alloc) {

@@ -32,4 +32,5 @@ pub mod Stepping
 pub mod TableRecords
 pub mod Tables
 pub mod Taking
+pub mod Untouched
 pub mod Works

@@ -1,7 +1,7 @@
 -- What a call that may change the repository answers.
 --     met_nothing, met_by result      what was met.      reply_to result      the reply; a fault of the ground has none, nor has one of its files
 --     RefusesBy result refused      what the machine's refusals give where a test gave this
---     Turns s command met reply s'      the reply and the next state are the machine's, for what was met
+--     Turns s command met reply s'      the reply and the next state are the machine's, for what was met.      IsCut fault      it is one of taking a step
 --     Answers told s v command met reply store work      they are so, where the store holds the next repository, the work is that of the next state, and its tree has the view that comes of v
 --     first_view records store r parents      the view of the tree of a work's first parent, as its commit's record refers to it: each part of it is known.      first_parent here      over the image that a store holds
 --     GoesOn store work      the store's tables are some repository's, and the work goes on from commits of it
@@ -83,7 +83,7 @@ abbrev pub IsLeaving : {A : Type 0} → Result A StoreFault → Type 0
 IsLeaving (Err (StoreFault.Leaving number)) = Unit {0}
 IsLeaving result = ⊥
 
--- of a commit that nothing refused
+-- the faults of a step that is taken
 abbrev pub IsCut : StoreFault → Type 0
 IsCut StoreFault.Ground = Unit {0}
 IsCut StoreFault.Memory = Unit {0}

@@ -2,7 +2,7 @@
 --     IsOf store r      its tables are the repository's, in its history parents come first, and a collection goes on at one of its commits, if any does, and is kept with its check
 --     OwnsPair told s      no child changes the live pair of a slot.      OwnsLive told      nor that of the slot that is live
 --     Holds store told r      so are its tables, and so is what the ground reads as; its places are those of the commits' records; and a collection that goes on may be accepted, once it is checked
---     SameTables store other      they differ in what was met alone, and in which records are kept.      place_of_commit store number      where the record of a commit lies
+--     SameTables store other      they differ alone in which records the space keeps.      place_of_commit store number      where the record of a commit lies
 --     image_records holds      the records of the image that it holds, which are among those of its space
 use Rattle.std.specs.Prelude.{◌≡◌, ◌≢◌, ℕ, ◌-◌, ◌<◌, ◌≤◌, length, map, All, Option, IfSome, slice_get}
 use Rattle.ip_ground.specs.declared.names.FileName.TheVariants.{Control}

@@ -28,7 +28,7 @@ pub struct Held {
     pub slot: Slot,
     /// The names of the commits, in the order of their numbers.
     pub names: Names,
-    /// Where the records of the commits lie, in the order of their numbers.
+    /// Where the records of the commits lie, as offsets in bytes, in the order of their numbers.
     pub places: Places,
     pub branches: Branches,
     pub history: Table,
@@ -135,7 +135,7 @@ impl Held {
         }
     }
 
-    /// Where the record of a retained commit lies.
+    /// Where the record of a retained commit lies: its offset, in bytes.
     pub fn place_of(&self, number: Number) -> u64
         requires { (r : Repository) × IsOf self.now r × IsTrue (is_retained r number) }
         ensures { place_of_commit self.now number ≡ Some result }

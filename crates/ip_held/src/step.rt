@@ -197,6 +197,7 @@ impl Held {
         // only what is entered takes memory
         ensures nothing { step.entry ≡ Entry.Nothing → IfErr result (λ fault. fault ≡ StoreFault.Ground) }
         ensures same_collection { self.new.collection ≡ self.old.collection }
+        ensures unswept { self.new.unswept ≡ self.old.unswept }
         // of any answer: a commit needs it behind a fault too
         ensures numbers { KeepsNumbers self.old self.new }
         ensures grew { IsTrue G.tells → (r : Repository) (held : Holds self.old (G.told outside.old) r) → Grew (λ done. true) held result self.new (G.told outside.new) }

@@ -1,5 +1,5 @@
--- A store that is made has all cleared away, and one that is opened takes what is unswept from its slot.
-use Rattle.std.proofs.Common.{◌≡◌, ℕ, ◌<◌, ◌≤◌, sym, ◌∙◌, ap, subst, arith}
+-- A store that is made has all cleared away, and one that is opened takes what is unswept from its slot, and collects nothing.
+use Rattle.std.proofs.Common.{◌≡◌, ℕ, ◌<◌, ◌≤◌, None, sym, ◌∙◌, ap, subst, arith}
 use Rattle.std.specs.Prelude.{Result, Ok, Err, IfOk, take}
 use Rattle.ip_ground.specs.Contents.{bytes_of}
 use Rattle.ip_ground.specs.Told.{Told}
@@ -36,3 +36,7 @@ made_clear chunk size told is s has = record {
 pub opened_unswept : (index : ℕ) (s : Slot) (found : Found) (result : Result Held OpenFault) → Finishes index s found result → IfOk result (λ store. store.unswept ≡ unswept_in store.slot)
 opened_unswept index s found (Ok store) finished = finished.unswept ∙ ap unswept_in (sym finished.slot)
 opened_unswept index s found (Err fault) finished = tt
+
+pub opened_idle : (index : ℕ) (s : Slot) (found : Found) (result : Result Held OpenFault) → Finishes index s found result → IfOk result (λ store. store.collection ≡ None)
+opened_idle index s found (Ok store) finished = finished.idle
+opened_idle index s found (Err fault) finished = tt

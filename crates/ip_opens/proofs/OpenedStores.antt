@@ -1,5 +1,5 @@
 -- The store that is made of a slot and of what was found, and what opening answers.
---     whole_of      the test at the end.      tables_of, holds_of      the repository of the store, which it holds
+--     whole_of, whole_by      the test at the end, and back from what is whole.      tables_of, holds_of      the repository of the store, which it holds
 --     sync_only, finds_fault, finds, finds_form      the exits of finding the slot.      opens_none, opens_no_space, opens_bad_as, opens_by      those of opening
 use Rattle.std.proofs.Common.{◌≡◌, ℕ, ◌+◌, ◌*◌, ◌<◌, ◌≤◌, inl, inr, Bool, true, List, [], ◌∷◌, map, length, refl, sym, ◌∙◌, ap, subst, arith}
 use Rattle.std.specs.Prelude.{Option, Some, None, Result, Ok, Err, IfOk, OnOk, IsErr, IsErrAnd, IsErrOf, IsSome, IfSome, IsTrue, All, is_none, option_map}
@@ -66,6 +66,13 @@ pub whole_of : (s : Slot) (found : Found) (names : _) (records : Records) → Te
 whole_of s found names records tells is whole =
     let size = names_size names records is in
     whole_from s records tells.good (let n = whole.0 in omega (arith, n, size)) (subst (λ (m : Branching). AreRetained s m) tells.branches whole.1)
+
+pub whole_by : (s : Slot) (found : Found) (names : _) (records : Records) → Tells s found records → names ≡ map commit_name (commits_in records)
+    → WholeFits s records → (s.next ≡ s.floor + length names) × AreRetained s found.branches
+whole_by s found names records tells is fits =
+    let size = names_size names records is in
+    let next = fits.next in
+    (omega (arith, next, size), subst (λ (m : Branching). AreRetained s m) (sym tells.branches) fits.branches)
 
 are_hashes : (cs : List CommitRecord) → All IsHash (map commit_name cs)
 are_hashes cs = All-from_recursion IsHash (map commit_name cs) (each cs)

@@ -73,13 +73,7 @@ pub fn open_at<G: Ground>(alloc: Global, outside: &mut G) -> Result<Held, OpenFa
     let (index, slot) = find_slot(outside)?;
     let space = space_of(alloc, outside, &slot)?;
     let found = read_records(alloc, outside, &slot, &space)?;
-    match finish(index, slot, found, space) {
-        Ok(store) => Ok(store),
-        Err(fault) => {
-            outside.note_damage();
-            Err(fault)
-        }
-    }
+    finish(outside, index, slot, found, space)
 }
 
 // The live slot, and which one it is. From the sync on, what is read of the control file is what a crash leaves.
@@ -131,12 +125,20 @@ fn space_of<G: Ground>(alloc: Global, outside: &mut G, slot: &Slot) -> Result<Sp
     }
 }
 
-// The store of a slot, its space and its records, where slot and records go together.
-fn finish(index: u8, slot: Slot, found: Found, space: Space) -> Result<Held, OpenFault>
+// The store of a slot, its space and its records, where slot and records go together; that they do not is noted. It takes no memory.
+fn finish<G: Ground>(
+    outside: &mut G,
+    index: u8,
+    slot: Slot,
+    found: Found,
+    space: Space,
+) -> Result<Held, OpenFault>
     requires slot { IsSlot slot }
     requires space { IsSpaceOf slot space }
     ensures finishes { Finishes index slot found result }
     ensures space { IfOk result (λ store. store.space ≡ space) }
+    ensures only { IsTrue G.tells → ChangesOnly NoFile (G.told outside.old) (G.told outside.new) }
+    ensures counts { Counts counted_open result (G.counts_of outside.old) (G.counts_of outside.new) }
 {
     let Found {
         audit,
@@ -146,6 +148,7 @@ fn finish(index: u8, slot: Slot, found: Found, space: Space) -> Result<Held, Ope
     } = found;
     let names = audit.into_names();
     if !is_whole(&slot, &names, &branches) {
+        outside.note_damage();
         return Err(slot_damaged(index));
     }
     Ok(Held {

@@ -1,5 +1,5 @@
 // The walk over a store's records: each is read once, in the order of the offsets, and tested behind those before it.
-ghost use Rattle.std.specs.Prelude.{◌≡◌, ◌≢◌, ◌↔◌, ℕ, [], ◌∷◌, ◌++◌, ◌+◌, ◌^◌, ◌<◌, ◌≤◌, length, map, Option, Err, IsSome, IsTrue, IsFalse, IfOk, OnOk, OnErr, IsErrOf};
+ghost use Rattle.std.specs.Prelude.{◌≡◌, ◌≢◌, ◌↔◌, ℕ, [], ◌∷◌, ◌++◌, ◌+◌, ◌^◌, ◌<◌, ◌≤◌, length, map, Option, Err, IsSome, IsTrue, IsFalse, IfOk, IfErr, OnOk, OnErr, IsErrOf};
 ghost use Rattle.ip_opens.specs.OpenFaults.{counted_open};
 ghost use Rattle.ip_ground.specs.Counts.{Counts, CountsIf};
 ghost use Rattle.ip_ground.specs.Told.{NoFile, ChangesOnly};
@@ -33,7 +33,7 @@ use std::alloc::Global;
 #[derive(Drop)]
 pub struct Found {
     pub audit: Audit,
-    /// Where the records of the commits lie, in their order.
+    /// Where the records of the commits lie, as offsets in bytes, in their order.
     pub places: Places,
     pub branches: Branches,
     pub history: Table,
@@ -180,8 +180,30 @@ fn unread(space: &Space, fault: FetchFault) -> OpenFault
     }
 }
 
+// A record that goes over the end of its stretch is none, which is noted: no call that reads has seen it.
+fn ends_within<G: Ground>(
+    outside: &mut G,
+    space: &Space,
+    at: u64,
+    next: u64,
+    end: u64,
+) -> Result<(), OpenFault>
+    requires lies { IsSome (lies_at space.now.layout space.now.runs at) }
+    ensures within { IfOk result (λ _. next ≤ end) }
+    ensures beyond { IfErr result (λ fault. (end < next) × IsPlaced space.now at fault) }
+    ensures still { OnOk result (outside.new ≡ outside.old) }
+    ensures only { IsTrue G.tells → ChangesOnly NoFile (G.told outside.old) (G.told outside.new) }
+    ensures counts { Counts counted_open result (G.counts_of outside.old) (G.counts_of outside.new) }
+{
+    if next <= end {
+        return Ok(());
+    }
+    outside.note_damage();
+    Err(damaged_at(space, at))
+}
+
 // Takes a record that was read, where it is a good one.
-fn take_read(
+fn take_record(
     alloc: Global,
     slot: &Slot,
     space: &Space,
@@ -205,7 +227,7 @@ fn take_read(
     }
 }
 
-// The fault that taking a record gave; that it found damage is noted.
+// The fault that taking a record gave; that it found damage is noted: no call that reads has seen it.
 fn noted<G: Ground>(outside: &mut G, fault: OpenFault) -> OpenFault
     requires { fault ≢ OpenFault.Ground }
     ensures same { result ≡ fault }
@@ -220,6 +242,31 @@ fn noted<G: Ground>(outside: &mut G, fault: OpenFault) -> OpenFault
         }
         OpenFault::Ground => fault,
         OpenFault::Memory => fault,
+    }
+}
+
+// Takes a record that was read, and notes where it is no good one.
+fn take_read<G: Ground>(
+    alloc: Global,
+    outside: &mut G,
+    slot: &Slot,
+    space: &Space,
+    at: u64,
+    rec: Record,
+    found: &mut Found,
+) -> Result<(), OpenFault>
+    requires slot { IsSlot slot.now }
+    requires lies { IsSome (lies_at space.now.layout space.now.runs at) }
+    requires told { TellsSome at found.old }
+    requires bounds { Fits newest_version rec }
+    ensures takes { TakesRead slot.now space.now at rec found.old found.new result }
+    ensures still { OnOk result (outside.new ≡ outside.old) }
+    ensures only { IsTrue G.tells → ChangesOnly NoFile (G.told outside.old) (G.told outside.new) }
+    ensures counts { Counts counted_open result (G.counts_of outside.old) (G.counts_of outside.new) }
+{
+    match take_record(alloc, slot, space, at, rec, found) {
+        Ok(()) => Ok(()),
+        Err(fault) => Err(noted(outside, fault)),
     }
 }
 
@@ -256,13 +303,14 @@ fn take_next<G: Ground>(
     match walk.scan.step(outside, space) {
         Ok(None) => Ok(false),
         Ok(Some((at, rec))) => {
-            if walk.scan.next() > walk.stretch.at + walk.stretch.length {
-                outside.note_damage();
-                return Err(damaged_at(space, at));
+            let end = walk.stretch.at + walk.stretch.length;
+            match ends_within(outside, space, at, walk.scan.next(), end) {
+                Ok(()) => {}
+                Err(fault) => return Err(fault),
             }
-            match take_read(alloc, slot, space, at, rec, found) {
+            match take_read(alloc, outside, slot, space, at, rec, found) {
                 Ok(()) => Ok(true),
-                Err(fault) => Err(noted(outside, fault)),
+                Err(fault) => Err(fault),
             }
         }
         Err(fault) => Err(unread(space, fault)),

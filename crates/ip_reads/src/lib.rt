@@ -1,4 +1,4 @@
-//! What a store tells of its commits and their trees: it only reads.
+//! What a store tells of its commits, and of trees over its records, which it edits in memory: no file is changed.
 #![tactic(auto)]
 
 mod commit;

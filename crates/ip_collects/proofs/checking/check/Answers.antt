@@ -7,10 +7,10 @@ use Rattle.ip_held.specs.Collecting.{until}
 use Rattle.ip_check.specs.Checking.{looked_by}
 use Rattle.ip_collects.specs.CollectFaults.{counted_finish}
 use Rattle.ip_collects.specs.Finishing.{IsUndamaged, looked_at}
-use Rattle.ip_collects.specs.Judging.{EndsCheck, FitsExit, IsOpen, SlicesBy, TellsVerdict}
+use Rattle.ip_collects.specs.Judging.{EndsCheck, FindsNone, FitsExit, IsOpen, SlicesBy, TellsVerdict}
 use Rattle.ip_held.specs.Held.{Holds, IsOf}
 use Rattle.ip_held.proofs.Going.{phase_here}
-use Rattle.ip_collects.proofs.Judged.{begins_checking, begins_over, blames_check, counts_check, ends_through, has_exit, job_space, kept_check, looks_on, no_damage, none_looked, not_open, put_check, same_one, sliced_holds, sliced_says, sliced_tables, slices, with_holds, zero_fits}
+use Rattle.ip_collects.proofs.Judged.{begins_checking, begins_over, blames_check, breaks_check, check_readable, counts_check, ends_through, has_exit, job_space, kept_check, looks_on, memory_check, no_damage, none_looked, not_open, put_check, same_one, sliced_holds, sliced_says, sliced_tables, slices, with_holds, zero_fits}
 use Rattle.ip_collects.proofs.checking.check.Goals as goal
 
 pub returns-in_err-check-clause-holds : goal.returns-in_err-check-clause-holds
@@ -136,3 +136,18 @@ returns-clause-sliced g c y runs =
     (subst (λ verdict. SlicesBy c.args.most x verdict (Some (record x { check = Some now }))) (sym c.verdict_of.ensures)
     (slices store r x c.in-Some.is (has_exit store.collection x c.in-Some.is c.requires.running) c.in_ok-check.check c.in_ok-check.ensures.next now c.advance-outcome.ensures.check c.advance-outcome.ensures.same
     c.args.most c.left-left.result c.advance-outcome.result c.advance-outcome.ensures.advances c.left-left.ensures)))
+
+pub returns-clause-broken : goal.returns-clause-broken
+returns-clause-broken g c told owns at is =
+    let (r, of) = c.requires.tables in
+    let slice = c.advance-outcome.ensures in
+    let readable = check_readable c.args.store.now r c.in-Some.collection c.in_ok-check.check (g.G.Ground.told c.args.outside.now) of owns c.in_ok-check.ensures.next.of in
+    breaks_check c.take_check.new.collection c.in_ok-check.check c.advance-outcome.new.self (g.G.Ground.told c.args.outside.now) (g.G.Ground.told c.advance-outcome.new.outside) (slice.only told) readable slice.same.space c.advance-outcome.result c.left-left.result
+    (slice.broken told readable) at (sym c.verdict_of.ensures ∙ is)
+
+pub returns-clause-through : goal.returns-clause-through
+returns-clause-through g c is = memory_check c.take_check.new.collection c.advance-outcome.new.self c.advance-outcome.result c.left-left.result c.advance-outcome.ensures.unsaid (sym c.verdict_of.ensures ∙ is)
+
+-- no check was kept, and none began
+pub returns-in_err-check-clause-through : goal.returns-in_err-check-clause-through
+returns-in_err-check-clause-through g c is = subst (λ (y : Collection). FindsNone (Some y)) (sym c.take_check.ensures.taken) tt

@@ -6,7 +6,7 @@ use Rattle.ip_collects.specs.declared.finishing.FinishFault.{FinishFault}
 use Rattle.ip_held.specs.declared.held.Held.{Held}
 use Rattle.ip_collects.specs.Ending.{Goes}
 use Rattle.ip_collects.specs.Finishing.{FinishesBy, met_by_finish}
-use Rattle.ip_collects.proofs.FinishCalls.{cut_finishes, end_finishes, end_goes, end_loud, end_works, goes_cut, goes_idle, goes_on, goes_runs, goes_wait, may_hear, on_counts, on_finishes, on_untouched, on_works, quiet_works, some_heard}
+use Rattle.ip_collects.proofs.FinishCalls.{cut_finishes, end_finishes, end_goes, end_loud, end_works, goes_cut, goes_idle, goes_on, goes_runs, goes_wait, may_hear, on_counts, on_finishes, on_owns, on_untouched, on_works, quiet_works, some_heard}
 use Rattle.ip_collects.proofs.finishing.goes.Goals as goal
 
 pub heard-requires : goal.heard-requires
@@ -58,6 +58,12 @@ returns-in-Ok-clause-undamaged g c told r held = c.judged.ensures.undamaged told
 pub returns-in-Ok-clause-untouched : goal.returns-in-Ok-clause-untouched
 returns-in-Ok-clause-untouched g c told not x runs =
     on_untouched c.args.store.now x runs c.in-Ended.reaped c.args.most _ _ _ (c.heard.ensures.does told x runs) (c.judged.ensures.untouched told not)
+
+pub returns-in-Ok-clause-broken : goal.returns-in-Ok-clause-broken
+returns-in-Ok-clause-broken g c told owns at is =
+    let (r, of) = c.requires.tables in
+    let (y, runs, may) = some_heard c.args.store.now.collection c.args.child c.in-Ended.reaped c.in-Ended.is c.requires.heard in
+    c.judged.ensures.broken told (on_owns c.args.store.now y runs c.in-Ended.reaped c.args.most r of _ _ (c.heard.ensures.does told y runs) c.heard.new.store (c.heard.ensures.heard y runs) owns) at is
 
 pub returns-in-Ok-clause-works_stay : goal.returns-in-Ok-clause-works_stay
 returns-in-Ok-clause-works_stay g c told has r q held now =

@@ -4,10 +4,11 @@ use Rattle.ip_ground.specs.Told.{NoFile}
 use Rattle.ip_ground.proofs.Spans.{only_on}
 use Rattle.ip_image.specs.Slot.{IsSlot}
 use Rattle.ip_collects.specs.declared.checking.Verdict.{Verdict}
+use Rattle.ip_collects.specs.declared.finishing.FinishFault.{FinishFault}
 use Rattle.ip_collects.specs.declared.finishing.Looked.{Looked}
 use Rattle.ip_held.specs.declared.held.Held.{Held}
 use Rattle.ip_collects.specs.Judging.{EndsCheck, FitsExit, IsOpen, SlicesBy, TellsVerdict, with_check}
-use Rattle.ip_collects.proofs.FinishEnds.{as_fault_of, counts_cut, counts_refused, counts_swept, ends_collected, ends_cut, ends_open, ends_refused, ends_rejected, given_up, same_exit, some_exit, sweeps_on, swept_on, undamaged_as}
+use Rattle.ip_collects.proofs.FinishEnds.{as_fault_of, counts_cut, counts_refused, counts_swept, ends_collected, ends_cut, ends_open, ends_refused, ends_rejected, given_up, rootless_blames, rootless_damaged, same_exit, some_exit, sweeps_on, swept_on, undamaged_as}
 use Rattle.ip_collects.proofs.FinishMoments.{accepts_as, accepts_checked, asked_of, collected_by, cut_by, kept_on, refused_by, swept_out}
 use Rattle.ip_collects.proofs.finishing.judged.Goals as goal
 
@@ -85,7 +86,7 @@ returns-in-Ok-clause-counts g c = counts_swept c.sweep-left-in-Ok.result _ _ _ (
 pub returns-in-Err-accept-clause-ends : goal.returns-in-Err-accept-clause-ends
 returns-in-Err-accept-clause-ends g c x runs =
     let k = c.judge.ensures.check x runs in
-    ends_refused c.args.store.now x c.args.reaped c.args.most k.0 c.judge.new.store k.1 k.2 c.judge.ensures.tables (subst (λ (v : Verdict). FitsExit c.args.reaped.exit (Ok v)) c.in-Ok-Valid.field-0-is c.in-Ok-Valid.ensures.fits) c.accept.new.store c.requires.tables.0 c.requires.tables.1 c.in-Err-accept.fault c.in-Err-accept.ensures.faults
+    ends_refused c.args.store.now x c.args.reaped c.args.most k.0 c.judge.new.store k.1 k.2 c.judge.ensures.tables (subst (λ (v : Verdict). FitsExit c.args.reaped.exit (Ok v)) c.in-Ok-Valid.field-0-is c.in-Ok-Valid.ensures.fits) c.accept.new.store c.requires.tables.0 c.requires.tables.1 c.in-Err-accept.fault c.in-Err-accept.ensures.faults (subst (λ (v : Verdict). EndsCheck (Ok v) c.judge.new.store.collection) c.in-Ok-Valid.field-0-is c.in-Ok-Valid.ensures.ends)
     (λ p there. accepts_checked [] p x k.0 c.in-Err-accept.fault c.judge.new.store c.accept.new.store (c.in-Err-accept.ensures.tables p (record x { check = k.0 }) there (ap (λ (s : Held). s.collection) k.1)))
 
 pub returns-in-Err-accept-clause-any_moment : goal.returns-in-Err-accept-clause-any_moment
@@ -109,7 +110,10 @@ returns-in-Err-accept-clause-untouched g c told not =
     only_on _ _ _ NoFile (c.judge.ensures.only told) (c.in-Err-accept.ensures.untouched told (λ safe. not (undamaged_as (Unit {0}) Looked c.in-Err-accept.fault safe)))
 
 pub returns-in-Err-accept-clause-blames : goal.returns-in-Err-accept-clause-blames
-returns-in-Err-accept-clause-blames g c at is = c.in-Err-accept.ensures.blames at (as_fault_of (Unit {0}) Looked c.in-Err-accept.fault at is)
+returns-in-Err-accept-clause-blames g c at is = rootless_blames c.accept.new.store.collection at (c.in-Err-accept.ensures.rootless at (as_fault_of (Unit {0}) Looked c.in-Err-accept.fault at is))
+
+pub returns-in-Err-accept-clause-broken : goal.returns-in-Err-accept-clause-broken
+returns-in-Err-accept-clause-broken g c told owns at is = rootless_damaged (g.G.Ground.told c.accept.new.outside) c.accept.new.store.collection at (c.in-Err-accept.ensures.rootless at (as_fault_of (Unit {0}) Looked c.in-Err-accept.fault at is))
 
 pub returns-in-Err-accept-clause-counts : goal.returns-in-Err-accept-clause-counts
 returns-in-Err-accept-clause-counts g c = counts_refused c.in-Err-accept.fault _ _ _ c.in-Err-accept.ensures.faults c.in-Ok-Valid.ensures.counts c.in-Err-accept.ensures.counts
@@ -117,7 +121,7 @@ returns-in-Err-accept-clause-counts g c = counts_refused c.in-Err-accept.fault _
 pub returns-in-Err-clause-ends : goal.returns-in-Err-clause-ends
 returns-in-Err-clause-ends g c x runs =
     let k = c.judge.ensures.check x runs in
-    ends_cut c.args.store.now x c.args.reaped c.args.most k.0 c.judge.new.store k.1 k.2 c.judge.ensures.tables c.in-Err.fault c.in-Err.ensures.fits
+    ends_cut c.args.store.now x c.args.reaped c.args.most k.0 c.judge.new.store k.1 k.2 c.judge.ensures.tables c.in-Err.fault c.in-Err.ensures.fits (λ e. c.in-Err.ensures.through (ap (λ (f : FinishFault). Err f) e))
 
 pub returns-in-Err-clause-any_moment : goal.returns-in-Err-clause-any_moment
 returns-in-Err-clause-any_moment g c told r held x runs =
@@ -132,6 +136,9 @@ returns-in-Err-clause-untouched g c told not = c.judge.ensures.only told
 
 pub returns-in-Err-clause-blames : goal.returns-in-Err-clause-blames
 returns-in-Err-clause-blames g c at is = c.in-Err.ensures.blames at (as_fault_of Verdict Looked c.in-Err.fault at is)
+
+pub returns-in-Err-clause-broken : goal.returns-in-Err-clause-broken
+returns-in-Err-clause-broken g c told owns at is = c.in-Err.ensures.broken told owns at (as_fault_of Verdict Looked c.in-Err.fault at is)
 
 pub returns-in-Err-clause-counts : goal.returns-in-Err-clause-counts
 returns-in-Err-clause-counts g c = counts_cut c.in-Err.fault _ _ c.in-Err.ensures.fits.1 c.in-Err.ensures.counts

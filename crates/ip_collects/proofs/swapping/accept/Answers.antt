@@ -4,7 +4,7 @@ use Rattle.ip_collects.specs.Judging.{IsThrough}
 use Rattle.ip_ground.specs.Told.{Told}
 use Rattle.ip_collects.specs.Swapping.{Accepts, AcceptsAs}
 use Rattle.ip_held.specs.declared.held.Held.{Held}
-use Rattle.ip_collects.proofs.Accepting.{runs_through, check_through, refused_so, refused_tables, refused_counts, refused_blames, turned_safe, accepts_tables, slot_of_swap, undamaged, accepts_none, pair_syncs, sync_cut, going_on, swap_cut, accepts}
+use Rattle.ip_collects.proofs.Accepting.{runs_through, check_through, refused_so, refused_tables, refused_counts, refused_rootless, turned_safe, accepts_tables, slot_of_swap, undamaged, accepts_none, pair_syncs, sync_cut, going_on, swap_cut, accepts}
 use Rattle.ip_collects.proofs.swapping.accept.Goals as goal
 
 pub returns-in-Err-clause-tables : goal.returns-in-Err-clause-tables
@@ -34,10 +34,10 @@ returns-in-Err-clause-unchanged g c is = c.note_fault.ensures.undamaged (turned_
 pub returns-in-Err-clause-untouched : goal.returns-in-Err-clause-untouched
 returns-in-Err-clause-untouched g c told not = c.note_fault.ensures.only told
 
-pub returns-in-Err-clause-blames : goal.returns-in-Err-clause-blames
-returns-in-Err-clause-blames g c at is =
+pub returns-in-Err-clause-rootless : goal.returns-in-Err-clause-rootless
+returns-in-Err-clause-rootless g c at is =
     let t = runs_through c.args.store.now.collection c.requires.through in
-    refused_blames c.args.store.now c.turn_down.new.store t.0 c.in-Err.fault t.1 c.turn_down.ensures (c.in-Err.ensures.refused t.0 t.1) at (cc (is))
+    refused_rootless c.args.store.now c.turn_down.new.store t.0 c.in-Err.fault t.1 c.requires.through c.turn_down.ensures (c.in-Err.ensures.refused t.0 t.1) at (cc (is))
 
 pub returns-in_err-sync_pair-clause-does : goal.returns-in_err-sync_pair-clause-does
 returns-in_err-sync_pair-clause-does g c told r held x runs verdict =
