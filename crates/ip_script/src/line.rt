@@ -7,6 +7,7 @@ ghost use Rattle.ip_spec.specs.declared.command.Command.{Command};
 ghost use Rattle.ip_spec.specs.declared.command.LineFault.TheVariants as LineFault;
 ghost use Rattle.ip_spec.specs.Line.{Reads, IsBadAt, IsLineOf};
 ghost use Rattle.ip_script.specs.Fields.{reach};
+ghost use Rattle.ip_script.specs.Frugal.{IsFrugal};
 ghost use Rattle.ip_script.specs.Forms.{word_of, fields_of, command_at};
 ghost use Rattle.ip_script.specs.Words.{left_of};
 ghost use Rattle.ip_script.specs.declared.line.Form.TheVariants as Form;
@@ -178,6 +179,7 @@ fn reach(word: &[u8], fields: &[Field], line: &[u8]) -> Fit
 fn command_of(alloc: Global, form: Form, text: &[u8]) -> Result<Command, Memory>
     ensures command { IfOk result (λ command. command ≡ command_at form text.now) }
     ensures no_words { fields_of form ≡ [] → IsOk result }
+    ensures spare { IsFrugal (command_at form text.now) → IsOk result }
 {
     let mut words = Words::new(text);
     match form {
@@ -248,7 +250,8 @@ fn merge_of(alloc: Global, mut words: Words<'_>) -> Result<Command, Memory>
 }
 
 fn lcas_of(alloc: Global, mut words: Words<'_>) -> Result<Command, Memory>
-    ensures { IfOk result (λ command. command ≡ command_at Form.Lcas (left_of words.entry)) }
+    ensures command { IfOk result (λ command. command ≡ command_at Form.Lcas (left_of words.entry)) }
+    ensures spare { IsFrugal (command_at Form.Lcas (left_of words.entry)) → IsOk result }
 {
     Ok(Command::Lcas {
         one: words.target(alloc)?,
@@ -256,10 +259,12 @@ fn lcas_of(alloc: Global, mut words: Words<'_>) -> Result<Command, Memory>
     })
 }
 
-/// The command that a line spells, or how many of its bytes begin one. A line of one word takes no memory.
+/// The command that a line spells, or how many of its bytes begin one. A line that is no command takes no memory, nor does one of one word, or whose other words are names of commits.
 pub fn read_line(alloc: Global, line: &[u8]) -> Result<Command, LineFault>
     ensures reads { Reads IsLineOf line.now result }
+    ensures bad { (at : ℕ) → IsBadAt IsLineOf line.now at → result ≡ Err (LineFault.Bad at) }
     ensures one_word { IsFalse (list_any (λ b. b == space) line.now) → result ≢ Err LineFault.Memory }
+    ensures spare { (command : Command) → IsLineOf command line.now → IsFrugal command → result ≢ Err LineFault.Memory }
 {
     let mut most = 0;
     for form in FORMS {

@@ -1,6 +1,7 @@
 // What the words of a line say, one behind the other.
-ghost use Rattle.std.specs.Prelude.{◌≡◌, IfOk};
+ghost use Rattle.std.specs.Prelude.{◌≡◌, IfOk, IsOk};
 ghost use Rattle.ip_script.specs.Dates.{date_value};
+ghost use Rattle.ip_script.specs.Frugal.{IsNamed};
 ghost use Rattle.ip_script.specs.Words.{left_of, word_at, left_at, path_at, place_at, contents_of, hash_of, target_of, info_at};
 ghost use Rattle.ip_script.specs.declared.field.Field.TheVariants as Field;
 
@@ -94,9 +95,10 @@ impl<'a> Words<'a> {
         }
     }
 
-    /// A branch, or a commit by its name.
+    /// A branch, or a commit by its name, which takes no memory.
     pub fn target(&mut self, alloc: Global) -> Result<Target, Memory>
         ensures value { IfOk result (λ target. target ≡ target_of (word_at Field.Reference (left_of self.old))) }
+        ensures spare { IsNamed (target_of (word_at Field.Reference (left_of self.old))) → IsOk result }
         ensures left { left_of self.new ≡ left_at Field.Reference (left_of self.old) }
     {
         let word = self.next(Field::Reference);

@@ -1,6 +1,6 @@
 -- What a command asks of the spawner, and what is counted meanwhile.
 --     goes_itself, goes_same, goes_none      a collection goes on that ran before, or none does
---     nothing_asked      it asks nothing.      plain_asked      so for a command that has to do with no child.      nothing_spawned      for a line
+--     tells_slice, tells_unswept      its reply tells of no check, and of no sweep.      start_unswept      so of a collection that was to begin.      nothing_asked      it asks nothing.      plain_asked      so for a command that has to do with no child.      nothing_spawned      for a line
 --     none_met, faulted      no child was met.      start_asked      a collection was to begin.      start_quiet, start_counts      what was counted of the ground.      start_ends      how the session may end.      start_sound      by no damage
 --     cancel_asked, cancel_counts, cancel_quiet, cancel_sound      so of one that was to end
 --     plain_counts, plain_quiet      so of the others
@@ -23,7 +23,7 @@ use Rattle.ip_spec.specs.declared.met.Met.{Met}
 use Rattle.ip_spec.specs.declared.reply.Reply.{Reply}
 use Rattle.ip_spec.specs.Machine.{exit_kept}
 use Rattle.ip_spec.specs.Path.{Bytes}
-use Rattle.ip_spec.specs.Step.{IsMet}
+use Rattle.ip_spec.specs.Step.{IsMet, IsSwept}
 use Rattle.ip_spec.specs.View.{no_view}
 use Rattle.ip_spec.specs.Record.{Hash}
 use Rattle.ip_spec.specs.Repository.{Repository}
@@ -42,7 +42,7 @@ use Rattle.ip_collects.specs.Starting.{AnswersCall, branch_name_at, met_by_start
 use Rattle.ip_held.specs.Work.{work_at, state_at}
 use Rattle.ip_session.specs.declared.session.Session.{Session}
 use Rattle.ip_session.specs.declared.session.SessionEnd.{SessionEnd}
-use Rattle.ip_session.specs.Asking.{HasStarted, HandlesNone, TellsNone, MeetsNone, QuietIfLong, GoesOnBy, Asked, Spawns, starts_in}
+use Rattle.ip_session.specs.Asking.{HasStarted, HandlesNone, TellsNone, MeetsNone, QuietIfLong, GoesOnBy, IsSlicedIn, Asked, Spawns, starts_in}
 use Rattle.ip_session.specs.Session.{met_only, IsLong, CountsBy, CountsAny, CountsIn, EndsBy, MetDamage, counted_end}
 use Rattle.ip_session.specs.Starting.{HeldReplies, StartReplies, cancel_answer}
 use Rattle.ip_session.proofs.SessionLemmas.{started_is_short, cancelled_is_short, orphan_is_short, idle_is_short}
@@ -57,7 +57,7 @@ both_some (Some x) P Q R each p q = each x p q
 
 goes_itself : (o : Option Collection) → GoesOnBy [] o o
 goes_itself None = tt
-goes_itself (Some c) = inr (refl, (refl, refl, λ none. none))
+goes_itself (Some c) = inr (refl, (refl, refl, (λ none. none), omega arith))
 
 pub goes_same : (result : Result Reply SessionEnd) (before now : Option Collection) → now ≡ before → IfOk result (λ reply. GoesOnBy [] before now)
 goes_same (Ok reply) before now is = subst (GoesOnBy [] before) (sym is) (goes_itself before)
@@ -79,15 +79,17 @@ none_added x = λ i. record { started = sym (append-nil x.started) i; reaped = s
 pub never_failed : {A : Type 0} (b : Bool) → b ≡ false → IsTrue b → A
 never_failed b is failed = absurd (cc (is, failed))
 
-pub asks_nothing : (s s' : Session) (command : Command) (result : Result Reply SessionEnd) (m : SpawnCounts) → ¬ HasStarted result → result ≢ Ok Reply.Cancelled → MeetsNone s'.met → IfOk result (λ reply. GoesOnBy [] s.store.held.collection s'.store.held.collection) → Asked s s' command result [] [] m m
-asks_nothing s s' command result m never over met goes_on = record {
+pub asks_nothing : (s s' : Session) (command : Command) (result : Result Reply SessionEnd) (m : SpawnCounts) → ¬ HasStarted result → result ≢ Ok Reply.Cancelled → MeetsNone s'.met → IfOk result (λ reply. GoesOnBy [] s.store.held.collection s'.store.held.collection) → IfOk result (IsSlicedIn s.store.held.collection s'.store.held.collection) → Asked s s' command result [] [] m m
+asks_nothing s s' command result m never over met goes_on sliced = record {
   started = λ has. absurd (never has);
   none_started = λ _. refl;
   goes_on = goes_on;
+  sliced = sliced;
   running = λ is. absurd (cc (sym met.2 ∙ is));
   not_running = λ _. refl;
   waits = omega arith;
   no_wait = λ _. refl;
+  waited = λ _ some. absurd (some refl);
   reaps = omega arith;
   none_reaped = λ _. (refl, refl);
   heard = λ reaped is. absurd (cc (sym met.2 ∙ is));
@@ -98,9 +100,9 @@ asks_nothing s s' command result m never over met goes_on = record {
   kill = λ failed. never_failed s'.met.kill_failed met.1 failed;
 }
 
-pub nothing_asked : (tells : Bool) (dir : Bytes) (x y : spawn.Told) (s s' : Session) (command : Command) (result : Result Reply SessionEnd) (m n : SpawnCounts) → y ≡ x → n ≡ m → ¬ HasStarted result → result ≢ Ok Reply.Cancelled → MeetsNone s'.met → IfOk result (λ reply. GoesOnBy [] s.store.held.collection s'.store.held.collection) → AskedSo tells dir x y s s' command result m n
-nothing_asked tells dir x y s s' command result m n same still never over met goes_on =
-    ([], [], λ _. same ∙ none_added x, subst (λ (k : SpawnCounts). Asked s s' command result [] [] m k) (sym still) (asks_nothing s s' command result m never over met goes_on))
+pub nothing_asked : (tells : Bool) (dir : Bytes) (x y : spawn.Told) (s s' : Session) (command : Command) (result : Result Reply SessionEnd) (m n : SpawnCounts) → y ≡ x → n ≡ m → ¬ HasStarted result → result ≢ Ok Reply.Cancelled → MeetsNone s'.met → IfOk result (λ reply. GoesOnBy [] s.store.held.collection s'.store.held.collection) → IfOk result (IsSlicedIn s.store.held.collection s'.store.held.collection) → AskedSo tells dir x y s s' command result m n
+nothing_asked tells dir x y s s' command result m n same still never over met goes_on sliced =
+    ([], [], λ _. same ∙ none_added x, subst (λ (k : SpawnCounts). Asked s s' command result [] [] m k) (sym still) (asks_nothing s s' command result m never over met goes_on sliced))
 
 tells_start : (result : Result Reply SessionEnd) → IfOk result TellsNone → ¬ HasStarted result
 tells_start (Ok (Reply.Started name)) none has = none
@@ -110,8 +112,22 @@ tells_start (Err end) none has = has
 tells_over : (result : Result Reply SessionEnd) → IfOk result TellsNone → result ≢ Ok Reply.Cancelled
 tells_over result none is = subst (λ (x : Result Reply SessionEnd). IfOk x TellsNone) is none
 
+-- and of no sweep
+tells_unswept : (reply : Reply) → TellsNone reply → ¬ IsSwept reply
+tells_unswept (Reply.Collected floor left) none is = none
+tells_unswept (Reply.RejectedExit exit) none is = none
+tells_unswept (Reply.Rejected difference) none is = none
+tells_unswept Reply.Cancelled none is = none
+tells_unswept _ none is = is
+
+-- it tells of no check
+tells_slice : (result : Result Reply SessionEnd) (before now : Option Collection) → IfOk result TellsNone → IfOk result (IsSlicedIn before now)
+tells_slice (Ok (Reply.Checking left)) before now none = absurd none
+tells_slice (Ok _) before now none = tt
+tells_slice (Err end) before now none = tt
+
 pub plain_asked : (tells : Bool) (dir : Bytes) (x : spawn.Told) (s s' : Session) (command : Command) (result : Result Reply SessionEnd) (m : SpawnCounts) → IfOk result TellsNone → MeetsNone s'.met → s'.store.held.collection ≡ s.store.held.collection → AskedSo tells dir x x s s' command result m m
-plain_asked tells dir x s s' command result m none met same = nothing_asked tells dir x x s s' command result m m refl refl (tells_start result none) (tells_over result none) met (goes_same result s.store.held.collection s'.store.held.collection same)
+plain_asked tells dir x s s' command result m none met same = nothing_asked tells dir x x s s' command result m m refl refl (tells_start result none) (tells_over result none) met (goes_same result s.store.held.collection s'.store.held.collection same) (tells_slice result s.store.held.collection s'.store.held.collection none)
 
 pub none_met : (met : Met) (refused : Bool) → met ≡ met_only refused → MeetsNone met
 none_met met refused is = (ap (λ (m : Met). m.start_failed) is, ap (λ (m : Met). m.kill_failed) is, ap (λ (m : Met). m.child) is)
@@ -131,10 +147,10 @@ module _ (tells : Bool) (dir : Bytes) (x y : spawn.Told) (s s' : Session) (targe
   None_of result = AskedSo tells dir x y s s' (Command.Collect target) result m n
 
   unstarted : (result : Result Reply SessionEnd) (reply : Reply) → result ≡ Ok reply → TellsNone reply → MeetsNone s'.met → None_of result
-  unstarted result reply is none met = subst None_of (sym is) (nothing_asked tells dir x y s s' (Command.Collect target) (Ok reply) m n same.0 same.1 (tells_start (Ok reply) none) (tells_over (Ok reply) none) met (goes_same (Ok reply) s.store.held.collection s'.store.held.collection stays))
+  unstarted result reply is none met = subst None_of (sym is) (nothing_asked tells dir x y s s' (Command.Collect target) (Ok reply) m n same.0 same.1 (tells_start (Ok reply) none) (tells_over (Ok reply) none) met (goes_same (Ok reply) s.store.held.collection s'.store.held.collection stays) (tells_slice (Ok reply) s.store.held.collection s'.store.held.collection none))
 
   unended : (result : Result Reply SessionEnd) (end : SessionEnd) → result ≡ Err end → MeetsNone s'.met → None_of result
-  unended result end is met = subst None_of (sym is) (nothing_asked tells dir x y s s' (Command.Collect target) (Err end) m n same.0 same.1 (λ h. h) (λ e. absurd (cc e)) met tt)
+  unended result end is met = subst None_of (sym is) (nothing_asked tells dir x y s s' (Command.Collect target) (Err end) m n same.0 same.1 (λ h. h) (λ e. absurd (cc e)) met tt tt)
 
 meets : (m m' : Met) → m ≡ m' → MeetsNone m' → MeetsNone m
 meets m m' is none = subst MeetsNone (sym is) none
@@ -159,10 +175,12 @@ module _ (tells : Bool) (dir : Bytes) (x y : spawn.Told) (s : Session) (store : 
           started = λ _. subst (λ (o : Option Collection). IsSomeAnd o (λ c. (job ∷ [] ≡ c.job ∷ []) × (c.exit ≡ None) × IsJobAt s.store.held c.commit store.held.slot c.job)) (sym runs) (refl, refl, at);
           none_started = λ not. absurd (not (subst HasStarted (sym says.0) tt));
           goes_on = subst (λ (z : Result Reply SessionEnd). IfOk z (λ reply. GoesOnBy (job ∷ []) s.store.held.collection store.held.collection)) (sym says.0) (subst (GoesOnBy (job ∷ []) s.store.held.collection) (sym runs) (inl refl));
+          sliced = subst (λ (z : Result Reply SessionEnd). IfOk z (IsSlicedIn s.store.held.collection store.held.collection)) (sym says.0) tt;
           running = λ is. absurd (cc (sym none.2 ∙ is));
           not_running = λ _. counts.running;
           waits = omega (arith, counts.waits);
           no_wait = λ _. counts.waits;
+          waited = λ is. absurd (cc is);
           reaps = omega (arith, counts.reaps);
           none_reaped = λ _. (refl, counts.reaps);
           heard = λ reaped is. absurd (cc (sym none.2 ∙ is));
@@ -183,10 +201,12 @@ module _ (tells : Bool) (dir : Bytes) (x y : spawn.Told) (s : Session) (store : 
           started = λ has. absurd (subst HasStarted says.0 has);
           none_started = λ not. refl;
           goes_on = goes_same result s.store.held.collection store.held.collection (stays refl);
+          sliced = subst (λ (z : Result Reply SessionEnd). IfOk z (IsSlicedIn s.store.held.collection store.held.collection)) (sym says.0) tt;
           running = λ is. absurd (cc (sym none ∙ is));
           not_running = λ _. counts.running;
           waits = omega (arith, counts.waits);
           no_wait = λ _. counts.waits;
+          waited = λ is. absurd (cc is);
           reaps = omega (arith, counts.reaps);
           none_reaped = λ _. (refl, counts.reaps);
           heard = λ reaped is. absurd (cc (sym none ∙ is));
@@ -207,6 +227,29 @@ module _ (tells : Bool) (dir : Bytes) (x y : spawn.Told) (s : Session) (store : 
       each name (reply, is, inl told) other = unstarted tells dir x y s now target m n (still (inl tt)) (stays refl) result (Reply.Held name) (is ∙ ap Ok told.0) tt (meets met commits.met_nothing (told.1 ∙ is_met) (refl, refl, refl))
       each name (reply, is, inr short) other = unstarted tells dir x y s now target m n (still (inl tt)) (stays refl) result Reply.Memory (is ∙ ap Ok short.0) tt (meets met (met_only true) short.1 (refl, refl, refl))
 
+-- behind none of its replies a sweep was made
+start_unswept : (r : Repository) (before met : Met) (result : Result Reply SessionEnd) (begun : Result Hash CollectFault) → StartReplies r begun before met result → IfOk result (λ reply. ¬ IsSwept reply)
+start_unswept r before met result begun says = by begun says
+  where
+    Unswept : Result Reply SessionEnd → Type 0
+    Unswept result = IfOk result (λ reply. ¬ IsSwept reply)
+
+    told : (reply : Reply) → result ≡ Ok reply → ¬ IsSwept reply → Unswept result
+    told reply is not = subst Unswept (sym is) not
+
+    held : (name : Bytes) (reply : Reply) → result ≡ Ok reply → HeldReplies name before met reply → Unswept result
+    held name reply is (inl answer) = told (Reply.Held name) (is ∙ ap Ok answer.0) (λ h. h)
+    held name reply is (inr short) = told Reply.Memory (is ∙ ap Ok short.0) (λ h. h)
+
+    by : (begun : Result Hash CollectFault) → StartReplies r begun before met result → Unswept result
+    by (Ok name) says = told (Reply.Started name) says.0 (λ h. h)
+    by (Err CollectFault.Start) says = told Reply.StartFault says.0 (λ h. h)
+    by (Err (CollectFault.Busy name)) says = told (Reply.Busy name) says.0 (λ h. h)
+    by (Err (CollectFault.Limit limit)) says = told (Reply.Limit limit) says.0 (λ h. h)
+    by (Err CollectFault.Memory) says = told Reply.Memory says.0 (λ h. h)
+    by (Err CollectFault.Ground) says = subst Unswept (sym says.0) tt
+    by (Err (CollectFault.Held place)) says = both_some (branch_name_at r place) _ _ (Unswept result) (λ name h other. held name h.0 h.1 h.2) says says
+
 -- what was counted of the ground
 module _ (r : Repository) (before met : Met) (result : Result Reply SessionEnd) (target : Target) (old new : Noted) where
   counts_ok : (reply : Reply) → result ≡ Ok reply → new ≡ old → CountsBy result (Command.Collect target) met old new
@@ -223,12 +266,12 @@ module _ (r : Repository) (before met : Met) (result : Result Reply SessionEnd) 
 
   -- a long reply is no start
   pub start_quiet : (begun : Result Hash CollectFault) → StartReplies r begun before met result → before ≡ met_by_start begun → IfOk begun (λ name. length name ≤ 32) → CountsBy result (Command.Collect target) met old new → IfOk result (QuietIfLong met old new)
-  start_quiet begun says is_met size counts = by result (unheard begun says is_met) counts (λ name is. whole begun size says name is)
+  start_quiet begun says is_met size counts = by result (unheard begun says is_met) counts (start_unswept r before met result begun says) (λ name is. whole begun size says name is)
     where
-      by : (result : Result Reply SessionEnd) → met.child ≡ Child.NotAsked → CountsBy result (Command.Collect target) met old new → ((name : Hash) → result ≡ Ok (Reply.Started name) → ¬ IsLong (Reply.Started name)) → IfOk result (QuietIfLong met old new)
-      by (Ok (Reply.Started name)) none counts short = λ long. absurd (short name refl long)
-      by (Ok _) none counts short = λ long. (λ h. h, none, counts)
-      by (Err end) none counts short = tt
+      by : (result : Result Reply SessionEnd) → met.child ≡ Child.NotAsked → CountsBy result (Command.Collect target) met old new → IfOk result (λ reply. ¬ IsSwept reply) → ((name : Hash) → result ≡ Ok (Reply.Started name) → ¬ IsLong (Reply.Started name)) → IfOk result (QuietIfLong met old new)
+      by (Ok (Reply.Started name)) none counts unswept short = λ long. absurd (short name refl long)
+      by (Ok _) none counts unswept short = λ long. (λ h. h, none, counts, unswept)
+      by (Err end) none counts unswept short = tt
 
       -- no child was asked
       unheard : (begun : Result Hash CollectFault) → StartReplies r begun before met result → before ≡ met_by_start begun → met.child ≡ Child.NotAsked
@@ -286,7 +329,7 @@ start_sound r before met result begun says = by result (start_ends r before met 
     by : (result : Result Reply SessionEnd) → IfErr result (EndsBy (Unit {0})) → ¬ MetDamage result
     by (Ok reply) ends damaged = damaged
     by (Err SessionEnd.Ground) ends damaged = damaged
-    by (Err (SessionEnd.Damaged at names)) ends damaged = ends tt
+    by (Err (SessionEnd.Damaged at names)) ends damaged = ends.0 tt
 
 -- ---- one is to end
 
@@ -361,9 +404,15 @@ module _ (tells : Bool) (dir : Bytes) (x y : spawn.Told) (s : Session) (store : 
   done_of (Err CancelFault.Idle) is = absurd (cc is)
   done_of (Err CancelFault.Ground) is = absurd (cc is)
 
+  never_sliced : (done : Result Cancelled CancelFault) (one other : Option Collection) → IfOk (cancel_answer done) (IsSlicedIn one other)
+  never_sliced (Ok Cancelled.Done) one other = tt
+  never_sliced (Ok Cancelled.Orphan) one other = tt
+  never_sliced (Err CancelFault.Idle) one other = tt
+  never_sliced (Err CancelFault.Ground) one other = tt
+
   -- none runs
   pub idle_asked : done ≡ Err CancelFault.Idle → y ≡ x → n ≡ m → Over
-  idle_asked is same still = nothing_asked tells dir x y s (record s { store = store; met = met }) Command.Cancel (cancel_answer done) m n same still (never_started done) (λ cancelled. absurd (cc (sym (done_of done cancelled) ∙ is))) (no_start, no_kill (λ orphan. absurd (cc (sym orphan ∙ is))), no_child) (goes_none (cancel_answer done) [] s.store.held.collection store.held.collection over)
+  idle_asked is same still = nothing_asked tells dir x y s (record s { store = store; met = met }) Command.Cancel (cancel_answer done) m n same still (never_started done) (λ cancelled. absurd (cc (sym (done_of done cancelled) ∙ is))) (no_start, no_kill (λ orphan. absurd (cc (sym orphan ∙ is))), no_child) (goes_none (cancel_answer done) [] s.store.held.collection store.held.collection over) (never_sliced done s.store.held.collection store.held.collection)
 
   -- its child had been reaped
   pub kept_asked : (c : Collection) → s.store.held.collection ≡ Some c → IsSome c.exit → done ≢ Ok Cancelled.Orphan → y ≡ x → n ≡ m → Over
@@ -375,10 +424,12 @@ module _ (tells : Bool) (dir : Bytes) (x y : spawn.Told) (s : Session) (store : 
       started = λ has. absurd (never_started done has);
       none_started = λ _. refl;
       goes_on = goes_none (cancel_answer done) [] s.store.held.collection store.held.collection over;
+      sliced = never_sliced done s.store.held.collection store.held.collection;
       running = λ is. absurd (cc (sym no_child ∙ is));
       not_running = λ _. ap (λ (k : SpawnCounts). k.running) still;
       waits = (let e = ap (λ (k : SpawnCounts). k.waits) still in omega (arith, e));
       no_wait = λ _. ap (λ (k : SpawnCounts). k.waits) still;
+      waited = λ is. absurd (cc is);
       reaps = (let e = ap (λ (k : SpawnCounts). k.reaps) still in omega (arith, e));
       none_reaped = λ not. absurd (not tt);
       heard = λ reaped is. absurd (cc (sym no_child ∙ is));
@@ -391,8 +442,8 @@ module _ (tells : Bool) (dir : Bytes) (x y : spawn.Told) (s : Session) (store : 
   )
 
   -- its child was killed
-  pub killed_asked : (c : Collection) → m.reaps ≤ 2 ^ 64 - 1 → Killed c → Over
-  killed_asked c small (Some reaped, killed, told, counts) = (
+  pub killed_asked : (c : Collection) → Killed c → Over
+  killed_asked c (Some reaped, killed, told, counts) = (
     [],
     reaped ∷ [],
     λ t. told t ∙ (λ i. record { started = sym (append-nil x.started) i; reaped = x.reaped ++ reaped ∷ [] }),
@@ -400,11 +451,13 @@ module _ (tells : Bool) (dir : Bytes) (x y : spawn.Told) (s : Session) (store : 
       started = λ has. absurd (never_started done has);
       none_started = λ _. refl;
       goes_on = goes_none (cancel_answer done) [] s.store.held.collection store.held.collection over;
+      sliced = never_sliced done s.store.held.collection store.held.collection;
       running = λ is. absurd (cc (sym no_child ∙ is));
       not_running = λ _. counts.running;
       waits = omega (arith, counts.waits);
       no_wait = λ _. counts.waits;
-      reaps = elim reaped_one [ inl more ↦ omega (arith, more) | inr full ↦ omega (arith, full, small) ];
+      waited = λ is. absurd (cc is);
+      reaps = counts.reaps_stay;
       none_reaped = λ not. absurd (not tt);
       heard = λ reaped is. absurd (cc (sym no_child ∙ is));
       unheard = λ is. absurd (cc (sym no_child ∙ is));
@@ -417,7 +470,7 @@ module _ (tells : Bool) (dir : Bytes) (x y : spawn.Told) (s : Session) (store : 
     where
       reaped_one : Rose m.reaps n.reaps
       reaped_one = subst (Rose m.reaps) (sym counts.reaps) (rose_counted m.reaps)
-  killed_asked c small (None, killed, told, counts) = (
+  killed_asked c (None, killed, told, counts) = (
     [],
     [],
     λ t. told t ∙ none_added x,
@@ -425,10 +478,12 @@ module _ (tells : Bool) (dir : Bytes) (x y : spawn.Told) (s : Session) (store : 
       started = λ has. absurd (never_started done has);
       none_started = λ _. refl;
       goes_on = goes_none (cancel_answer done) [] s.store.held.collection store.held.collection over;
+      sliced = never_sliced done s.store.held.collection store.held.collection;
       running = λ is. absurd (cc (sym no_child ∙ is));
       not_running = λ _. counts.running;
       waits = omega (arith, counts.waits);
       no_wait = λ _. counts.waits;
+      waited = λ is. absurd (cc is);
       reaps = omega (arith, counts.reaps);
       none_reaped = λ not. absurd (not tt);
       heard = λ reaped is. absurd (cc (sym no_child ∙ is));
@@ -451,11 +506,11 @@ module _ (tells : Bool) (dir : Bytes) (x y : spawn.Told) (s : Session) (store : 
   kept_orphan r c (Err fault) runs kept e A is = absurd (cc is)
 
   pub cancel_asked : (r : Repository) → (s.store.held.collection ≡ None) ↔ (done ≡ Err CancelFault.Idle) → CancelReplies done (AnswersCall r s.store.held.collection Command.Cancel store.met store.held) → store.met ≡ met_by_cancel done left → (done ≡ Err CancelFault.Idle → (y ≡ x) × (n ≡ m))
-      → ((c : Collection) → s.store.held.collection ≡ Some c → IsSome c.exit → (y ≡ x) × (n ≡ m)) → m.reaps ≤ 2 ^ 64 - 1 → ((c : Collection) → s.store.held.collection ≡ Some c → c.exit ≡ None → Killed c) → Over
-  cancel_asked r either A e idle kept small killed = by s.store.held.collection refl
+      → ((c : Collection) → s.store.held.collection ≡ Some c → IsSome c.exit → (y ≡ x) × (n ≡ m)) → ((c : Collection) → s.store.held.collection ≡ Some c → c.exit ≡ None → Killed c) → Over
+  cancel_asked r either A e idle kept killed = by s.store.held.collection refl
     where
       one : (c : Collection) → s.store.held.collection ≡ Some c → (exit : Option Reaped) → c.exit ≡ exit → Over
-      one c is None none = killed_asked c small (killed c is none)
+      one c is None none = killed_asked c (killed c is none)
       one c is (Some reaped) some = (let there : IsSome c.exit = ap is_some some in let same = kept c is there in kept_asked c is there (kept_orphan r c done is there e A) same.0 same.1)
 
       by : (o : Option Collection) → s.store.held.collection ≡ o → Over
@@ -472,7 +527,7 @@ plain_counts Command.Cancel (Ok reply) met old new handles counts = absurd handl
 plain_counts _ (Ok reply) met old new handles counts = counts
 
 pub plain_quiet : (result : Result Reply SessionEnd) (met : Met) (old new : Noted) → IfOk result TellsNone → MeetsNone met → Counts counted_end result old new → IfOk result (QuietIfLong met old new)
-plain_quiet (Ok reply) met old new none meets counts = λ long. (tells_start (Ok reply) none, meets.2, counts)
+plain_quiet (Ok reply) met old new none meets counts = λ long. (tells_start (Ok reply) none, meets.2, counts, tells_unswept reply none)
 plain_quiet (Err end) met old new none meets counts = tt
 
 -- ---- lines
@@ -488,10 +543,12 @@ lined_asked tells dir x y s s' met command line result m n served one (jobs, end
       started = asked.started;
       none_started = asked.none_started;
       goes_on = asked.goes_on;
+      sliced = asked.sliced;
       running = asked.running;
       not_running = asked.not_running;
       waits = asked.waits;
       no_wait = asked.no_wait;
+      waited = asked.waited;
       reaps = asked.reaps;
       none_reaped = asked.none_reaped;
       heard = asked.heard;
@@ -503,6 +560,7 @@ lined_asked tells dir x y s s' met command line result m n served one (jobs, end
     });
     none = λ none. absurd (none command served);
     goes_on = asked.goes_on;
+    sliced = asked.sliced;
   };
 }
 
@@ -512,9 +570,10 @@ nothing_spawned tells dir x s s' line reply m none met same = record {
   ends = [];
   told = λ _. none_added x;
   asked = record {
-    command = λ command served. asks_nothing s s' command (Ok reply) m (tells_start (Ok reply) none) (tells_over (Ok reply) none) met (goes_same (Ok reply) s.store.held.collection s'.store.held.collection same);
+    command = λ command served. asks_nothing s s' command (Ok reply) m (tells_start (Ok reply) none) (tells_over (Ok reply) none) met (goes_same (Ok reply) s.store.held.collection s'.store.held.collection same) (tells_slice (Ok reply) s.store.held.collection s'.store.held.collection none);
     none = λ _. (refl, refl, refl);
     goes_on = goes_same (Ok reply) s.store.held.collection s'.store.held.collection same;
+    sliced = tells_slice (Ok reply) s.store.held.collection s'.store.held.collection none;
   };
 }
 
@@ -566,10 +625,12 @@ module _ (tells : Bool) (dir : Bytes) (x y : spawn.Told) (s s' : Session) (met :
           started = λ has. absurd has;
           none_started = λ not. asked.none_started (quiet long).0;
           goes_on = asked.goes_on;
+          sliced = tt;
           running = λ is. absurd (cc is);
           not_running = λ _. asked.not_running (λ is. absurd (cc (sym (quiet long).1 ∙ is)));
           waits = asked.waits;
           no_wait = asked.no_wait;
+          waited = asked.waited;
           reaps = asked.reaps;
           none_reaped = asked.none_reaped;
           heard = λ reaped is. absurd (cc is);
@@ -581,6 +642,7 @@ module _ (tells : Bool) (dir : Bytes) (x y : spawn.Told) (s s' : Session) (met :
         });
         none = spawns.asked.none;
         goes_on = spawns.asked.goes_on;
+        sliced = tt;
       };
     },
     subst (CountsIn line (Ok Reply.Memory) (met_only true) old) (sym (quiet long).2) (none_counts line Reply.Memory (met_only true) old refl),

@@ -34,7 +34,7 @@ use Rattle.ip_session.specs.declared.session.Session.{Session}
 use Rattle.ip_session.specs.Placing.{PlacedBy}
 use Rattle.ip_session.specs.Session.{unasked, IsServing, IsWorking, state_in, met_only, conditions_of, IsLong, attempt_of, hears, ChangesBy, ChangedBy, TouchedBy, GoesBy, CutBy}
 use Rattle.ip_session.specs.Starting.{cancel_answer}
-use Rattle.ip_session.proofs.Changing.{keeps_nothing, nothing_by, nothing_space, none_durable}
+use Rattle.ip_session.proofs.Changing.{keeps_nothing, nothing_by, nothing_space, none_durable, stays_of}
 use Rattle.ip_session.proofs.Placing.{unmoved}
 use Rattle.ip_session.proofs.SessionLemmas.{at, plainly, heard_none, unjudged, unsettled, cancelled_is_short, orphan_is_short, idle_is_short}
 use Rattle.ip_session.proofs.StartGoes.{step_turned}
@@ -84,12 +84,12 @@ module _ (a b : Told) (s : Session) (store : Store) (met : Met) (left : ℕ) (do
     Went = GoesBy unasked a b s after_it r v Command.Cancel
 
     abbrev At : Reply → Type 0
-    At reply = PlacedBy unasked s.store.held.slot s.store.held.unswept store.held.slot (state_in s r v) v Command.Cancel reply
+    At reply = PlacedBy unasked (image_records here.holds) s.store.held.slot s.store.held.unswept store.held.slot (state_in s r v) v Command.Cancel reply
 
     pub cancel_placed : (done : Result Cancelled CancelFault) → IfOk (cancel_answer done) At
-    cancel_placed (Ok Cancelled.Done) = unmoved s.store.held.slot s.store.held.unswept store.held.slot (state_in s r v) v Command.Cancel Reply.Cancelled unasked (none_durable Reply.Cancelled Command.Cancel refl) (λ h. h) (λ l is. absurd (cc is)) (λ t is. absurd (cc is)) slot_is
-    cancel_placed (Ok Cancelled.Orphan) = unmoved s.store.held.slot s.store.held.unswept store.held.slot (state_in s r v) v Command.Cancel Reply.CancelledOrphan unasked (none_durable Reply.CancelledOrphan Command.Cancel refl) (λ h. h) (λ l is. absurd (cc is)) (λ t is. absurd (cc is)) slot_is
-    cancel_placed (Err CancelFault.Idle) = unmoved s.store.held.slot s.store.held.unswept store.held.slot (state_in s r v) v Command.Cancel Reply.Idle unasked (none_durable Reply.Idle Command.Cancel refl) (λ h. h) (λ l is. absurd (cc is)) (λ t is. absurd (cc is)) slot_is
+    cancel_placed (Ok Cancelled.Done) = unmoved (image_records here.holds) s.store.held.slot s.store.held.unswept store.held.slot (state_in s r v) v Command.Cancel Reply.Cancelled unasked (none_durable Reply.Cancelled Command.Cancel refl) (λ h. h) (λ l is. absurd (cc is)) (λ t is. absurd (cc is)) slot_is
+    cancel_placed (Ok Cancelled.Orphan) = unmoved (image_records here.holds) s.store.held.slot s.store.held.unswept store.held.slot (state_in s r v) v Command.Cancel Reply.CancelledOrphan unasked (none_durable Reply.CancelledOrphan Command.Cancel refl) (λ h. h) (λ l is. absurd (cc is)) (λ t is. absurd (cc is)) slot_is
+    cancel_placed (Err CancelFault.Idle) = unmoved (image_records here.holds) s.store.held.slot s.store.held.unswept store.held.slot (state_in s r v) v Command.Cancel Reply.Idle unasked (none_durable Reply.Idle Command.Cancel refl) (λ h. h) (λ l is. absurd (cc is)) (λ t is. absurd (cc is)) slot_is
     cancel_placed (Err CancelFault.Ground) = tt
 
     gives : (reply : Reply) → Answers r reply → Step unasked (state_in s r v) Command.Cancel (conditions_of met) reply (state_in after_it r v)
@@ -107,6 +107,7 @@ module _ (a b : Told) (s : Session) (store : Store) (met : Met) (left : ℕ) (do
       gives = gives Reply.Idle A;
       judged = unjudged a a s after_it r v (unheard Reply.Idle A);
       settled = unsettled a s after_it Reply.Idle (unheard Reply.Idle A);
+      stays = λ c runs pair was. was;
       is_at = (let holds = same_holds s.store.held store.held same space r a here.holds in record {
         holds = holds;
         lawful = works_stay (image_records here.holds) (image_records holds) r r s.work v here.lawful (λ there. stays_still s.store.held store.held same r r a here.holds holds) (omega arith) here.lawful.parents;
@@ -141,6 +142,7 @@ module _ (a b : Told) (s : Session) (store : Store) (met : Met) (left : ℕ) (do
             gives = gives reply A;
             judged = unjudged a b s after_it r v (unheard reply A);
             settled = unsettled b s after_it reply (unheard reply A);
+            stays = stays_of s.store.held.collection c a b runs M.stays;
             is_at = record { holds = holds; lawful = works_stay (image_records here.holds) (image_records holds) r r s.work v here.lawful (λ there. stay r holds) (omega arith) here.lawful.parents };
             seen = refl;
             only = only;
@@ -171,6 +173,7 @@ module _ (a b : Told) (s : Session) (store : Store) (met : Met) (left : ℕ) (do
             difference = None;
             gives = subst (λ (m : Met). Step unasked (state_in s r v) Command.Cancel (conditions_of m) t.0 t.1) (sym e) (plainly r (phase_of s.store.held.collection) (work_at s.work v) Command.Cancel false t.0 tt (λ h. absurd (cc h)), refl);
             judged = unjudged a b s after_it r v (ap (λ (m : Met). m.child) e);
+            stays = stays_of s.store.held.collection c a b runs M.stays;
             only = by_attempt (TouchedBy s.store.held a.held Command.Cancel) (for_more c.job.attempt (IsSwept store.held.slot s.store.held.unswept) (TouchedBy s.store.held a.held Command.Cancel) a b swept M.only);
             files = M.files;
             said = M.only.said;

@@ -1,29 +1,46 @@
 -- Which files a command changes that may have to do with an attempt.
---     changed_by      these files alone, whether there is an attempt or not.      nothing_by      none
+--     stays_only, stays_beside, stays_of      an attempt that was settled stays so.      changed_by      these files alone, whether there is an attempt or not.      nothing_by      none
 --     none_durable      a command that is not durable did nothing that is.      keeps_nothing      no file of an attempt was written.      changed_so, touched_so      by a durable command.      nothing_only      nothing changed, by whatever line
 --     still_space      while no file changes the bytes of the live slot's records stay, whatever a crash leaves.      nothing_space      so where nothing changed
-use Rattle.std.proofs.Common.{Bool, ◌≡◌, ℕ, true, false, refl, Option, Some, None}
+use Rattle.std.proofs.Common.{Bool, ◌≡◌, ◌≢◌, ℕ, true, false, refl, sym, ◌∙◌, subst, Option, Some, None}
 use Rattle.ip_ground.specs.declared.names.FileName.{FileName}
 use Rattle.ip_ground.specs.declared.names.FileName.TheVariants.{Chunk, Mapping, Prefix}
 use Rattle.ip_ground.specs.Contents.{Image}
-use Rattle.ip_ground.specs.Told.{Told, NoFile, KeepsFile, ChangesOnly}
-use Rattle.ip_ground.proofs.Spans.{only_more}
+use Rattle.ip_ground.specs.Told.{Told, NoFile, KeepsFile, ChangesOnly, IsSettledAs}
+use Rattle.ip_ground.proofs.Spans.{lending_now, only_more}
 use Rattle.ip_spec.specs.declared.command.Command.{Command}
 use Rattle.ip_spec.specs.declared.reply.Reply.{Reply}
 use Rattle.ip_spec.specs.Path.{Bytes}
 use Rattle.ip_image.specs.declared.slot.Slot.{Slot}
 use Rattle.ip_image.specs.Pending.{HasLive, NothingPending, KeepsSpace}
 use Rattle.ip_image.specs.Virtual.{chunk_of, chunk_byte}
+use Rattle.ip_held.specs.declared.collection.Collection.{Collection}
 use Rattle.ip_held.specs.declared.held.Held.{Held}
 use Rattle.ip_publish.specs.Publishing.{MayChange}
-use Rattle.ip_held.specs.Sweeping.{KeepsFiles}
+use Rattle.ip_held.specs.Sweeping.{ChangesFor, KeepsFiles}
 use Rattle.ip_held.proofs.Apart.{for_only}
 use Rattle.ip_collects.proofs.Ended.{ends_only}
 use Rattle.ip_held.proofs.KeptFiles.{keeps_store}
-use Rattle.ip_session.specs.Session.{attempt_of, hears, is_durable, IsDurable, ChangesBy, ChangedBy, TouchedBy, OnlyIn}
+use Rattle.ip_session.specs.Session.{attempt_of, hears, is_durable, IsDurable, ChangesBy, ChangedBy, TouchedBy, OnlyIn, StaysSettled}
 
 pub keeps_nothing : (a b : Told) → ChangesOnly NoFile a b → KeepsFiles a b
 keeps_nothing a b only = keeps_store a b NoFile (λ file none. absurd none) only
+
+-- ---- an attempt that was settled
+
+pub stays_only : (o : Option Collection) (these : FileName → Type 0) (a b : Told) → ChangesOnly these a b → StaysSettled o a b
+stays_only o these a b only c runs pair was = (was.0, lending_now a b only.goes c.job.attempt (only.lending c.job.attempt) ∙ was.1)
+
+-- where another one alone changes
+pub stays_beside : (o : Option Collection) (n : ℕ) (these : FileName → Type 0) (a b : Told) → ChangesFor n these a b → ((c : Collection) → o ≡ Some c → c.job.attempt ≢ n) → StaysSettled o a b
+stays_beside o n these a b changes other c runs pair was = (was.0, lending_now a b changes.goes c.job.attempt (changes.lending c.job.attempt (other c runs)) ∙ was.1)
+
+pub stays_of : (o : Option Collection) (c : Collection) (a b : Told) → o ≡ Some c → ((pair : Image) → IsSettledAs a c.job.attempt pair → IsSettledAs b c.job.attempt pair) → StaysSettled o a b
+stays_of o c a b runs stays d again pair was =
+    let same : c ≡ d = cc (sym runs ∙ again) in
+    subst (λ (x : Collection). IsSettledAs a x.job.attempt pair → IsSettledAs b x.job.attempt pair) same (stays pair) was
+
+-- ---- files
 
 pub changed_by : (heard : Bool) (attempt : Option ℕ) (these : FileName → Type 0) (a b : Told) → ChangesOnly these a b → KeepsFiles a b → ChangesBy heard attempt these a b
 changed_by false None these a b only files = only

@@ -8,7 +8,7 @@
 --     answered      a fault that has a reply
 --     by_answer      a call of the store has a reply, or why the session ends: by fault_ends.      fault_ground, fault_met      by a fault that is none of the files, by which nothing was met.      damage_of      by damage.      answer_counts      which faults were counted
 use Rattle.std.proofs.Common.{◌≡◌, inl, ℕ, Bool, true, false, refl, sym, ap, ◌∙◌, subst, arith, Option, Some, None, Ok, Err}
-use Rattle.std.specs.Prelude.{Result, IfSome, IsErrAnd, IsErrOf, MatchBool, if◌then◌else◌}
+use Rattle.std.specs.Prelude.{Result, IfSome, IfErr, IsErrAnd, IsErrOf, MatchBool, if◌then◌else◌}
 use Rattle.ip_ground.specs.Counts.{Noted, CountsIf, Counts}
 use Rattle.ip_ground.specs.Told.{Told, NoFile, ChangesOnly}
 use Rattle.ip_ground.proofs.Spans.{only_more}
@@ -43,7 +43,8 @@ use Rattle.ip_held.proofs.Stepping.{of_store}
 use Rattle.ip_session.specs.declared.session.Session.{Session}
 use Rattle.ip_session.specs.declared.session.SessionEnd.{SessionEnd}
 use Rattle.ip_session.specs.Session.{unasked, attempt_of, hears, IsWorking, state_in, met_only, conditions_of, IsLong, is_durable, IsDurable, ChangedBy, TouchedBy, GoesBy, CutBy, EndsBy, IsAnswer, MetDamage, fault_answer, counted_end}
-use Rattle.ip_session.proofs.Changing.{changed_by, nothing_by, nothing_space, changed_so, touched_so, keeps_nothing}
+use Rattle.ip_session.proofs.Damage.{TellsApart}
+use Rattle.ip_session.proofs.Changing.{changed_by, nothing_by, nothing_space, changed_so, touched_so, keeps_nothing, stays_only}
 use Rattle.ip_session.proofs.SessionLemmas.{at, heard_none, unjudged, unsettled, nothing_kept, plainly, Refusable}
 use Rattle.ip_store.specs.declared.store.Store.{Store}
 
@@ -138,6 +139,7 @@ module _ (a b : Told) (s : Session) (store : Store) (work : Work) (r after : Rep
         gives = step_of r (phase_of s.store.held.collection) (work_at s.work v) command after whole store.met (heard_as T) reply (session T.next (phase_of store.held.collection) work T.view) T.turns.1 T.turns.0;
         judged = unjudged a b s after_it r v (heard_as T);
         settled = unsettled b s after_it reply (heard_as T);
+        stays = stays_only s.store.held.collection NoFile a b only;
         is_at = T.is_at (subst (Holds store.held b) (sym repository) does.1);
         seen = T.seen;
         only = nothing_by (hears command) (attempt_of s.store.held command) (ChangedBy s.store.held a.held command reply) a b only;
@@ -170,6 +172,7 @@ module _ (a b : Told) (s : Session) (store : Store) (work : Work) (r after : Rep
         gives = step_of r (phase_of s.store.held.collection) (work_at s.work v) command after whole store.met (heard_as T) reply (session T.next (phase_of store.held.collection) work T.view) T.turns.1 T.turns.0;
         judged = unjudged a b s after_it r v (heard_as T);
         settled = unsettled b s after_it reply (heard_as T);
+        stays = stays_only s.store.held.collection (MayChange a.held) a b does.only;
         is_at = T.is_at (subst (Holds store.held b) (sym repository) does.ok);
         seen = T.seen;
         only = changed_by (hears command) (attempt_of s.store.held command) (ChangedBy s.store.held a.held command reply) a b (only_more a b _ (ChangedBy s.store.held a.held command reply) (λ file changed. changed_so s.store.held a.held command reply file done changed) does.only) (keeps_store a b (MayChange a.held) (of_store a.held) does.only);
@@ -198,6 +201,7 @@ module _ (a b : Told) (s : Session) (store : Store) (work : Work) (r after : Rep
         difference = None;
         gives = subst (λ (m : Met). Step unasked (state_in s r v) command (conditions_of m) t.0 t.1) (sym e) (plainly r (phase_of s.store.held.collection) (work_at s.work v) command false t.0 (durable_asks command durable) (λ h. absurd (cc h)), whole.plain (conditions_of (met_only false)) t refl);
         judged = unjudged a b s (record s { store = store; work = work; met = met }) r v (ap (λ (m : Met). m.child) e);
+        stays = stays_only s.store.held.collection (MayChange a.held) a b does.only;
         only = changed_by (hears command) (attempt_of s.store.held command) (TouchedBy s.store.held a.held command) a b (only_more a b (MayChange a.held) (TouchedBy s.store.held a.held command) (λ file changed. touched_so s.store.held a.held command file durable changed) does.only) (keeps_store a b (MayChange a.held) (of_store a.held) does.only);
         files = keeps_store a b (MayChange a.held) (of_store a.held) does.only;
         said = does.only.said;
@@ -241,9 +245,9 @@ by_end P (StoreFault.Limit limit) end is ground damaged = absurd (cc is)
 by_end P StoreFault.Memory end is ground damaged = absurd (cc is)
 
 -- files that others changed are never met where it is known what the store holds
-pub fault_ends : {A : Type 0} (made : Result A StoreFault) (end : SessionEnd) (held : Type 0) → EndsBecause made end → (held → IsUndamaged made) → EndsBy held end
-fault_ends (Ok x) end held is sound = absurd is
-fault_ends {A = A} (Err fault) end held is sound = by_end (λ f e. (held → IsUndamaged {A = A} (Err f)) → EndsBy held e) fault end is (λ s. tt) (λ at_ names s. s) sound
+pub fault_ends : {A : Type 0} (made : Result A StoreFault) (end : SessionEnd) (held : Type 0) → EndsBecause made end → IfErr made TellsApart → (held → IsUndamaged made) → EndsBy held end
+fault_ends (Ok x) end held is apart sound = absurd is
+fault_ends {A = A} (Err fault) end held is apart sound = by_end (λ f e. TellsApart f → (held → IsUndamaged {A = A} (Err f)) → EndsBy held e) fault end is (λ a s. tt) (λ at_ names a s. (s, a)) apart sound
 
 pub fault_ground : {A : Type 0} (made : Result A StoreFault) (end : SessionEnd) → EndsBecause made end → IsUndamaged made → IsErrOf made StoreFault.Ground
 fault_ground (Ok x) end is sound = absurd is

@@ -7,7 +7,8 @@ use Rattle.std.proofs.Common.{◌≡◌, ◌≢◌, ◌⊎◌, inl, inr, ℕ, ze
 use Rattle.std.specs.Prelude.{◌↔◌, Result, IfOk, IfErr, IfSome, IsErrOf, IsSomeAnd, is_some, is_ok, is_err, option_map}
 use Rattle.ip_base.specs.declared.exit.Reaped.{Reaped}
 use Rattle.ip_ground.specs.Counts.{Noted, CountsLeft, Rose}
-use Rattle.ip_ground.specs.Told.{Told, NoFile}
+use Rattle.ip_ground.specs.Contents.{Image}
+use Rattle.ip_ground.specs.Told.{Told, NoFile, IsSettledAs}
 use Rattle.ip_spawn.proofs.Rising.{rose_counted}
 use Rattle.ip_spawn.specs.Children.{told_after, end_seen, end_reaped, is_running}
 use Rattle.ip_spawn.specs.Children as spawn
@@ -31,19 +32,20 @@ use Rattle.ip_collects.specs.declared.finishing.Rejection.{Rejection}
 use Rattle.ip_held.specs.declared.held.Held.{Held}
 use Rattle.ip_held.specs.Clear.{KeepsClear, ClearsAll}
 use Rattle.ip_held.specs.Collecting.{child_of, phase_of, IsPhaseOf}
-use Rattle.ip_collects.specs.Finishing.{LookReplies, child_seen, child_reaped, CountsFinish, FinishesBy, HasAnswer, IsKept, IsOver, IsQuiet, IsSweptBehind, IsUndamaged, WorksStay}
-use Rattle.ip_held.specs.Held.{IsOf, Holds}
+use Rattle.ip_collects.specs.Finishing.{LookReplies, child_seen, child_reaped, CountsFinish, FinishesBy, HasAnswer, IsKept, IsOver, IsQuiet, IsSliced, IsSweptBehind, IsUndamaged, Slices, WorksStay}
+use Rattle.ip_held.specs.Held.{IsOf, Holds, image_records}
 use Rattle.ip_held.specs.Sweeping.{EndsFor}
 use Rattle.ip_collects.proofs.FinishTurns.{IsEnding}
 use Rattle.ip_session.specs.declared.session.Session.{Session}
 use Rattle.ip_session.specs.declared.session.SessionEnd.{SessionEnd}
-use Rattle.ip_session.specs.Asking.{HasStarted, HeardOf, GoesOnBy, QuietIfLong}
+use Rattle.ip_session.specs.Asking.{HasStarted, HeardOf, GoesOnBy, IsSlicedIn, QuietIfLong, looks}
 use Rattle.ip_session.specs.Running.{IsKnown, Ran}
 use Rattle.ip_session.specs.Session.{unasked, ChangesBy, CountsBy, EndsBy, IsLong, IsServing, MetDamage, StillBy}
 use Rattle.ip_session.specs.Starting.{look_answer}
 use Rattle.ip_session.proofs.Asking.{AskedSo, nothing_asked, goes_same, goes_none, none_added, never_failed, none_left}
-use Rattle.ip_session.proofs.ClearGoes.{finish_clear}
-use Rattle.ip_session.proofs.FinishGoes.{Says, concluded, may_reap, finish_serves, finish_goes, finish_cuts, finish_placed}
+use Rattle.ip_session.proofs.ClearGoes.{finish_clear, Settles}
+use Rattle.ip_session.proofs.Wanted.{look_wants}
+use Rattle.ip_session.proofs.FinishGoes.{Says, by_end, concluded, may_reap, finish_serves, finish_goes, finish_cuts, finish_placed}
 use Rattle.ip_store.specs.declared.store.Store.{Store}
 
 -- ---- what was answered
@@ -68,10 +70,6 @@ reaps_so (Ok reaped) = refl
 reaps_so (Err fault) = refl
 
 -- ---- what is asked
-
-counted_up : (more : Bool) (k : ℕ) → k ≤ 2 ^ 64 - 1 → k ≤ spawned.counted more k
-counted_up true k small = elim (rose_counted k) [ inl up ↦ omega (arith, up) | inr full ↦ omega (arith, full, small) ]
-counted_up false k small = omega arith
 
 never_started : (looked : Result Looked FinishFault) → ¬ HasStarted (look_answer looked)
 never_started (Ok Looked.Running) has = has
@@ -144,7 +142,7 @@ module _ (tells : Bool) (dir : Bytes) (x y : spawn.Told) (s : Session) (store : 
         where
           some : (c : Collection) (reaped : Reaped) → s.store.held.collection ≡ Some c → store.met.child ≡ Child.Ended reaped → GoesOnBy [] s.store.held.collection store.held.collection
           some c reaped runs heard = (let K = says.goes.goes_on is c reaped runs heard in
-              subst (λ (o : Option Collection). GoesOnBy [] o store.held.collection) (sym runs) (subst (GoesOnBy [] (Some c)) (sym K.is) (inr (refl, (K.commit, K.job, λ none. absurd (cc (sym K.exit ∙ none)))))))
+              subst (λ (o : Option Collection). GoesOnBy [] o store.held.collection) (sym runs) (subst (GoesOnBy [] (Some c)) (sym K.is) (inr (refl, (K.commit, K.job, (λ none. absurd (cc (sym K.exit ∙ none))), K.looked)))))
 
           run : (o : Option Collection) → s.store.held.collection ≡ o → GoesOnBy [] s.store.held.collection store.held.collection
           run None none = absurd (not (says.goes.runs.0 none))
@@ -163,12 +161,36 @@ module _ (tells : Bool) (dir : Bytes) (x y : spawn.Told) (s : Session) (store : 
       by (Err FinishFault.Ground) is = tt
       by (Err (FinishFault.Damaged at)) is = tt
 
+  -- a check that is not through
+  checking : (left : ℕ) → looked ≡ Ok (Looked.Checking left) → IsSomeAnd s.store.held.collection (λ c. IsSliced looks c left store.held.collection)
+  checking left is = go s.store.held.collection refl
+    where
+      go : (o : Option Collection) → s.store.held.collection ≡ o → IsSomeAnd o (λ c. IsSliced looks c left store.held.collection)
+      go None none = absurd (cc (sym is ∙ says.goes.runs.0 none))
+      go (Some c) runs = subst (λ (k : ℕ). IsSliced k c left store.held.collection) (says.slices left is) (subst (λ (x : Result Looked FinishFault). Slices says.most c x store.held.collection) is (says.goes.sliced c runs))
+
+  sliced : IfOk (look_answer looked) (IsSlicedIn s.store.held.collection store.held.collection)
+  sliced = by looked refl
+    where
+      by : (x : Result Looked FinishFault) → looked ≡ x → IfOk (look_answer x) (IsSlicedIn s.store.held.collection store.held.collection)
+      by (Ok Looked.Running) is = tt
+      by (Ok (Looked.Checking left)) is = checking left is
+      by (Ok (Looked.Collected collected)) is = tt
+      by (Err FinishFault.Idle) is = tt
+      by (Err FinishFault.Wait) is = tt
+      by (Err (FinishFault.Rejected (Rejection.Exit exit))) is = tt
+      by (Err (FinishFault.Rejected (Rejection.Differs difference))) is = tt
+      by (Err (FinishFault.Limit limit)) is = tt
+      by (Err FinishFault.Memory) is = tt
+      by (Err FinishFault.Ground) is = tt
+      by (Err (FinishFault.Damaged at)) is = tt
+
   -- none runs
   idle_asked : (r : Repository) → IsOf s.store.held r → s.store.held.collection ≡ None → looked ≡ Err FinishFault.Idle → (y ≡ x) × (n ≡ m) → Asks
   idle_asked r tables none is same =
       let says_idle = concluded s store met command ending looked is_met says r tables Reply.Idle (ap look_answer is) in
       let heard : MayHear Phase.Idle command store.met.child = subst (λ (o : Option Collection). MayHear (phase_of o) command store.met.child) none (says_idle.turns empty_work).0.child in
-      nothing_asked tells dir x y s after_it command (look_answer looked) m n same.0 same.1 (never_started looked) (never_over looked) (no_start, no_kill, child_is ∙ none_heard command ending store.met.child heard) goes_on
+      nothing_asked tells dir x y s after_it command (look_answer looked) m n same.0 same.1 (never_started looked) (never_over looked) (no_start, no_kill, child_is ∙ none_heard command ending store.met.child heard) goes_on sliced
 
   -- its child had been reaped
   kept_asked : (r : Repository) → IsOf s.store.held r → (c : Collection) (kept : Reaped) → s.store.held.collection ≡ Some c → c.exit ≡ Some kept → (y ≡ x) × (n ≡ m) → Asks
@@ -182,10 +204,12 @@ module _ (tells : Bool) (dir : Bytes) (x y : spawn.Told) (s : Session) (store : 
           started = λ has. absurd (never_started looked has);
           none_started = λ _. refl;
           goes_on = goes_on;
+          sliced = sliced;
           running = λ is. absurd (cc (sym is ∙ child));
           not_running = λ _. ap (λ (k : SpawnCounts). k.running) same.1;
           waits = (let e = ap (λ (k : SpawnCounts). k.waits) same.1 in omega (arith, e));
           no_wait = λ _. ap (λ (k : SpawnCounts). k.waits) same.1;
+          waited = λ _ some. absurd (some refl);
           reaps = (let e = ap (λ (k : SpawnCounts). k.reaps) same.1 in omega (arith, e));
           none_reaped = λ not. absurd (not (may_reap command ending));
           heard = λ reaped is. (let e : kept ≡ reaped = ended_alike kept reaped (sym child ∙ is) in
@@ -206,6 +230,7 @@ module _ (tells : Bool) (dir : Bytes) (x y : spawn.Told) (s : Session) (store : 
     pub failed : Bool
     pub sees : Sees store.met.child end ran failed
     pub waits : (waited ≡ false) ⊎ (command ≡ Command.Finish)
+    pub awaits : command ≡ Command.Finish → waited ≡ true
     pub attempt : IfSome end (λ reaped. reaped.attempt ≡ c.job.attempt)
     pub told : IsTrue tells → y ≡ told_after end x
     pub counts : spawned.Counts ran waited (is_some end) failed m n
@@ -218,8 +243,8 @@ module _ (tells : Bool) (dir : Bytes) (x y : spawn.Told) (s : Session) (store : 
   told_so None = none_added x
   told_so (Some reaped) = λ i. record { started = sym (append-nil x.started) i; reaped = x.reaped ++ reaped ∷ [] }
 
-  now_asked : (c : Collection) → s.store.held.collection ≡ Some c → c.exit ≡ None → m.reaps ≤ 2 ^ 64 - 1 → m.waits ≤ 2 ^ 64 - 1 → Answered c → Asks
-  now_asked c runs fresh reaps_small waits_small A = (
+  now_asked : (c : Collection) → s.store.held.collection ≡ Some c → c.exit ≡ None → Answered c → Asks
+  now_asked c runs fresh A = (
     [],
     ends_in A.end,
     λ t. A.told t ∙ told_so A.end,
@@ -227,12 +252,14 @@ module _ (tells : Bool) (dir : Bytes) (x y : spawn.Told) (s : Session) (store : 
       started = λ has. absurd (never_started looked has);
       none_started = λ _. refl;
       goes_on = goes_on;
+      sliced = sliced;
       running = λ is. (let sees = subst (λ (k : Child). Sees k A.end A.ran A.failed) (sym child_is ∙ is) A.sees in
           subst (Rose m.running) (sym A.counts.running) (subst (λ (b : Bool). Rose m.running (spawned.counted b m.running)) (sym sees.1) (rose_counted m.running)));
       not_running = λ not. A.counts.running ∙ ap (λ (b : Bool). spawned.counted b m.running) (not_ran store.met.child A.end A.ran A.failed A.sees (λ is. not (child_is ∙ is)));
-      waits = subst (λ (k : ℕ). m.waits ≤ k) (sym A.counts.waits) (counted_up A.waited m.waits waits_small);
+      waits = A.counts.waits_stay;
       no_wait = λ not. elim A.waits [ inl none ↦ A.counts.waits ∙ ap (λ (b : Bool). spawned.counted b m.waits) none | inr is ↦ absurd (not is) ];
-      reaps = subst (λ (k : ℕ). m.reaps ≤ k) (sym A.counts.reaps) (counted_up (is_some A.end) m.reaps reaps_small);
+      waited = λ is _. subst (Rose m.waits) (sym A.counts.waits) (subst (λ (b : Bool). Rose m.waits (spawned.counted b m.waits)) (sym (A.awaits is)) (rose_counted m.waits));
+      reaps = A.counts.reaps_stay;
       none_reaped = λ not. absurd (not (may_reap command ending));
       heard = λ reaped is. (let sees = subst (λ (k : Child). Sees k A.end A.ran A.failed) (sym child_is ∙ is) A.sees in
           subst (λ (o : Option Collection). IsSomeAnd o (λ d. HeardOf d reaped (ends_in A.end) m n)) (sym runs) (
@@ -252,11 +279,11 @@ module _ (tells : Bool) (dir : Bytes) (x y : spawn.Told) (s : Session) (store : 
   )
 
   pub finish_asked : (r : Repository) → IsOf s.store.held r → (looked ≡ Err FinishFault.Idle → (y ≡ x) × (n ≡ m)) → ((c : Collection) (reaped : Reaped) → s.store.held.collection ≡ Some c → c.exit ≡ Some reaped → (y ≡ x) × (n ≡ m))
-      → m.reaps ≤ 2 ^ 64 - 1 → m.waits ≤ 2 ^ 64 - 1 → ((c : Collection) → s.store.held.collection ≡ Some c → c.exit ≡ None → Answered c) → Asks
-  finish_asked r tables idle kept reaps_small waits_small now = by s.store.held.collection refl
+      → ((c : Collection) → s.store.held.collection ≡ Some c → c.exit ≡ None → Answered c) → Asks
+  finish_asked r tables idle kept now = by s.store.held.collection refl
     where
       one : (c : Collection) → s.store.held.collection ≡ Some c → (exit : Option Reaped) → c.exit ≡ exit → Asks
-      one c runs None fresh = now_asked c runs fresh reaps_small waits_small (now c runs fresh)
+      one c runs None fresh = now_asked c runs fresh (now c runs fresh)
       one c runs (Some reaped) exit = kept_asked r tables c reaped runs exit (kept c reaped runs exit)
 
       by : (o : Option Collection) → s.store.held.collection ≡ o → Asks
@@ -323,7 +350,7 @@ finish_ends (Err (FinishFault.Rejected (Rejection.Differs difference))) held who
 finish_ends (Err (FinishFault.Limit limit)) held whole = tt
 finish_ends (Err FinishFault.Memory) held whole = tt
 finish_ends (Err FinishFault.Ground) held whole = tt
-finish_ends (Err (FinishFault.Damaged at)) held whole = whole
+finish_ends (Err (FinishFault.Damaged at)) held whole = (whole, tt)
 
 -- damage ends it only where the call met it, and then of all files the child's alone may have changed
 damage_looked : (looked : Result Looked FinishFault) → MetDamage (look_answer looked) → ¬ IsUndamaged looked
@@ -332,7 +359,7 @@ damage_looked looked damaged sound = by (look_answer looked) (finish_ends looked
     by : (result : Result Reply SessionEnd) → IfErr result (EndsBy (Unit {0})) → ¬ MetDamage result
     by (Ok reply) ends damaged = damaged
     by (Err SessionEnd.Ground) ends damaged = damaged
-    by (Err (SessionEnd.Damaged at names)) ends damaged = ends tt
+    by (Err (SessionEnd.Damaged at names)) ends damaged = ends.0 tt
 
 finish_still : (before : Held) (store : Store) (command : Command) → IsEnding command → (looked : Result Looked FinishFault) (a b : Told) → (before.collection ≡ None) ↔ IsErrOf looked FinishFault.Idle → (¬ IsUndamaged looked → (c : Collection) → before.collection ≡ Some c → EndsFor c.job.attempt NoFile a b)
     → MetDamage (look_answer looked) → StillBy before a b command
@@ -352,6 +379,16 @@ finish_still before store command ending looked a b runs untouched damaged = by 
     by None is = absurd (idle looked (runs.0 is) damaged)
     by (Some c) is = each command ending (Some c) is (untouched (damage_looked looked damaged) c is)
 
+quiet_unswept : (looked : Result Looked FinishFault) → IsQuiet looked → ¬ IsSweptBehind looked
+quiet_unswept (Ok (Looked.Collected collected)) quiet swept = quiet
+quiet_unswept (Err (FinishFault.Rejected rejection)) quiet swept = quiet
+quiet_unswept _ quiet swept = swept
+
+swept_answer : (looked : Result Looked FinishFault) → IsSweptBehind looked → HasAnswer looked
+swept_answer (Err FinishFault.Ground) swept = swept
+swept_answer (Err (FinishFault.Damaged at)) swept = swept
+swept_answer _ swept = tt
+
 -- ---- all that the session does
 
 pub record Knows (a b : Told) (before : Held) (store : Store) (command : Command) (looked : Result Looked FinishFault) (r : Repository) (held : Holds before a r) : Type 0 where
@@ -364,6 +401,11 @@ module _ (tells : Bool) (a b : Told) (p q : Noted) (spawns : Bool) (held : Optio
   abbrev Does : Result Reply SessionEnd → Type 0
   Does = Ran (IsTrue tells) (IsTrue tells) unasked a b p q spawns held dir x y m n s (record s { store = store; met = met }) command
 
+  -- a sweep is made only once the child has ended
+  finish_settles : (r : Repository) (here : Holds s.store.held a r) → Knows a b s.store.held store command looked r here → IsSweptBehind looked → Settles a b s store met is_met
+  finish_settles r here known swept = by_end s store met command ending looked is_met says (Settles a b s store met is_met) (λ quiet un. absurd (quiet_unswept looked quiet swept))
+      (λ c reaped runs heard. subst (λ (o : Option Collection). IsSomeAnd o (λ d. (pair : Image) × IsSettledAs b d.job.attempt pair)) (sym runs) ((known.any_moment c reaped runs heard).does.settled (swept_answer looked swept)))
+
   pub finish_ran : (result : Result Reply SessionEnd) → result ≡ look_answer looked → IfOk result (λ reply. ¬ IsLong reply) → IsServing s → (IsTrue tells → (r : Repository) (here : Holds s.store.held a r) → Knows a b s.store.held store command looked r here) → (IsTrue tells → ¬ IsUndamaged looked → (c : Collection) → s.store.held.collection ≡ Some c → EndsFor c.job.attempt NoFile a b) → (IsQuiet looked → b ≡ a) → CountsFinish looked store.met.left p q
       → held ≡ child_of store.held.collection → AskedSo spawns dir x y s (record s { store = store; met = met }) command (look_answer looked) m n → Does result
   finish_ran result is brief (r0, of) known untouched still counts child asked =
@@ -372,8 +414,8 @@ module _ (tells : Bool) (a b : Told) (p q : Noted) (spawns : Bool) (held : Optio
         runs = record {
           serving = finish_serves s store met command ending looked is_met says r0 of.0 of.1;
           goes = λ t r v here. let K = known t r here.holds in finish_goes s store met command ending looked is_met says a b r v here K.any_moment K.works_stay still short;
-          placed = λ t r v here. finish_placed s store met command ending looked is_met says r here.holds.tables v;
-          clear = λ t r v here. finish_clear a b s store met is_met command looked (known t r here.holds).clear;
+          placed = λ t r v here. finish_placed s store met command ending looked is_met says r here.holds.tables v (image_records here.holds);
+          clear = λ t r v here. finish_clear a b s store met is_met command looked (may_reap command ending) (known t r here.holds).clear says.goes.unswept (finish_settles r here.holds (known t r here.holds));
           cut = λ t r v here. let K = known t r here.holds in finish_cuts s store met command ending looked is_met says a b r v here K.any_moment K.undamaged;
           cause = finish_ends looked (IsKnown (IsTrue tells) a s) (λ (t, (r, v, here)). (known t r here.holds).undamaged);
           untouched = λ t damaged. finish_still s.store.held store command ending looked a b says.goes.runs (untouched t) damaged;
@@ -381,5 +423,6 @@ module _ (tells : Bool) (a b : Told) (p q : Noted) (spawns : Bool) (held : Optio
         child = child;
         asked = asked;
         quiet = finish_quiet (look_answer looked) met p q short;
+        memory = look_wants s store met command ending looked is_met says;
         counts = finish_counts s store met command ending looked is_met says r0 of.0 p q counts;
       })

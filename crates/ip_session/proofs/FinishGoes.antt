@@ -13,6 +13,7 @@ use Rattle.ip_ground.specs.Told.{Told, NoFile}
 use Rattle.ip_ground.proofs.Spans.{only_nowhere}
 use Rattle.ip_spec.specs.declared.command.Command.{Command}
 use Rattle.ip_spec.specs.declared.met.Child.{Child}
+use Rattle.ip_spec.specs.declared.record.Record.{Record}
 use Rattle.ip_spec.specs.declared.met.Met.{Met}
 use Rattle.ip_spec.specs.declared.reply.Difference.{Difference}
 use Rattle.ip_spec.specs.declared.reply.Reply.{Reply}
@@ -38,17 +39,17 @@ use Rattle.ip_held.specs.Held.{IsOf, Holds, SameTables, image_records}
 use Rattle.ip_held.specs.Sweeping.{IsSwept, EndsFor}
 use Rattle.ip_held.specs.Views.{IsViewAfter}
 use Rattle.ip_held.specs.Work.{AreParents, work_at, state_at}
-use Rattle.ip_collects.proofs.Ended.{ends_more}
+use Rattle.ip_collects.proofs.Ended.{ends_more, ends_stays}
 use Rattle.ip_collects.proofs.FinishTurns.{IsEnding}
 use Rattle.ip_held.proofs.Stepping.{itself, same_holds, stays_still}
 use Rattle.ip_held.proofs.Works.{works_stay}
 use Rattle.ip_session.specs.declared.session.Session.{Session}
 use Rattle.ip_session.specs.declared.session.SessionEnd.{SessionEnd}
-use Rattle.ip_session.specs.Asking.{MayReap}
+use Rattle.ip_session.specs.Asking.{MayReap, looks}
 use Rattle.ip_session.specs.Placing.{PlacedBy, IsSwappedAt, HasCollected}
 use Rattle.ip_session.specs.Session.{unasked, conditions_with, IsServing, IsWorking, IsJudgedIn, HasSettled, IsSettledIn, IsLong, is_durable, state_in, attempt_of, hears, ChangesBy, ChangedAtEnd, ChangedBy, TouchedBy, GoesBy, CutBy}
 use Rattle.ip_session.specs.Starting.{look_answer}
-use Rattle.ip_session.proofs.Changing.{keeps_nothing, none_durable, nothing_by, nothing_space}
+use Rattle.ip_session.proofs.Changing.{keeps_nothing, none_durable, nothing_by, nothing_space, stays_of}
 use Rattle.ip_session.proofs.StartGoes.{chosen}
 use Rattle.ip_store.specs.declared.store.Store.{Store}
 
@@ -336,6 +337,8 @@ pub record Says (s : Session) (store : Store) (command : Command) (looked : Resu
   -- a child that was reaped before is not asked again
   pub kept : (c : Collection) (reaped : Reaped) → s.store.held.collection ≡ Some c → c.exit ≡ Some reaped → store.met.child ≡ Child.Ended reaped
   pub answered : (r : Repository) → IsOf s.store.held r → LookReplies looked (Concludes r s.store.held.collection command (conditions_by store.met looked) store.held)
+  -- a look alone makes a part of the check
+  pub slices : (left : ℕ) → looked ≡ Ok (Looked.Checking left) → most ≡ looks
 
 module _ (s : Session) (store : Store) (met : Met) (command : Command) (ending : IsEnding command) (looked : Result Looked FinishFault) (is_met : met ≡ store.met) (says : Says s store command looked) where
   abbrev after_it : Session
@@ -401,7 +404,7 @@ module _ (s : Session) (store : Store) (met : Met) (command : Command) (ending :
       let turns = subst (λ (o : Option Collection). TurnsBy (state_at r (phase_of o) empty_work) command met (Reply.Collected floor left) (state_at C.after (phase_of store.held.collection) empty_work)) runs (C.turns empty_work) in
       floor_of start c.commit c.exit met met.told.refused met.told.child floor left (ap (λ (t : Turned). t.0) (sym (turn_is start command ending met) ∙ turns.1))
 
-  module _ (r : Repository) (tables : IsOf s.store.held r) (v : View) where
+  module _ (r : Repository) (tables : IsOf s.store.held r) (v : View) (records : ℕ → Option Record) where
     abbrev Swapped : ℕ → Type 0
     Swapped floor = IsSwappedAt s.store.held.slot s.store.held.unswept floor store.held.slot
 
@@ -421,8 +424,8 @@ module _ (s : Session) (store : Store) (met : Met) (command : Command) (ending :
           sequence = says.goes.limits.enough (collected_of looked floor left is);
         })
 
-    pub finish_placed : IfOk (look_answer looked) (PlacedBy unasked s.store.held.slot s.store.held.unswept store.held.slot (state_in s r v) v command)
-    finish_placed = each_reply (PlacedBy unasked s.store.held.slot s.store.held.unswept store.held.slot (state_in s r v) v command) (look_answer looked) (λ reply is. record {
+    pub finish_placed : IfOk (look_answer looked) (PlacedBy unasked records s.store.held.slot s.store.held.unswept store.held.slot (state_in s r v) v command)
+    finish_placed = each_reply (PlacedBy unasked records s.store.held.slot s.store.held.unswept store.held.slot (state_in s r v) v command) (look_answer looked) (λ reply is. record {
       done = λ done. absurd (none_durable reply command (undurable command ending) done);
       quiet = λ undone not. by_running (store.held.slot ≡ s.store.held.slot) (λ none idle. ap (λ (x : Held). x.slot) (says.goes.quiet (quiet_idle idle)))
           (λ c runs. of_reply (λ x. ¬ HasCollected x command → store.held.slot ≡ s.store.held.slot) (look_answer looked) reply (slot_stays s.store.held store.held c command ending looked (says.goes.slot c runs)) is not);
@@ -489,6 +492,7 @@ module _ (s : Session) (store : Store) (met : Met) (command : Command) (ending :
             gives = gives reply is;
             judged = judged;
             settled = settled_in reply is;
+            stays = stays_of s.store.held.collection c a b runs (ends_stays c.job.attempt (MayTouch looked store.held s.store.held.unswept) a b F.does.only);
             is_at = record { holds = holds; lawful = stay has after holds s.work v here.lawful };
             seen = seen_ending r v command reply ending;
             only = by_attempt a b s.store.held c command ending runs (ChangedBy s.store.held a.held command reply) (ends_more c.job.attempt (MayTouch looked store.held s.store.held.unswept) a b (ChangedBy s.store.held a.held command reply)
@@ -526,6 +530,7 @@ module _ (s : Session) (store : Store) (met : Met) (command : Command) (ending :
             gives = subst (λ (m : Met). Step unasked (state_in s r v) command (conditions_with m F.met.difference) t.0 t.1) (sym met_so)
                 (subst (λ (o : Option Collection). Step unasked (state_at r (phase_of o) w) command conditions t.0 t.1) (sym runs) (cut_step r c.commit c.exit reaped heard_so left F.met.difference w command ending));
             judged = judged;
+            stays = stays_of s.store.held.collection c a b runs (ends_stays c.job.attempt (MayTouch looked store.held s.store.held.unswept) a b F.does.only);
             only = by_attempt a b s.store.held c command ending runs (TouchedBy s.store.held a.held command) (ends_more c.job.attempt (MayTouch looked store.held s.store.held.unswept) a b (TouchedBy s.store.held a.held command)
                 (λ file may. touched_is s.store.held a command ending file (subst (λ (x : Result Looked FinishFault). MayTouch x store.held s.store.held.unswept file) ground may)) F.does.only);
             files = F.does.files;
@@ -556,6 +561,7 @@ module _ (s : Session) (store : Store) (met : Met) (command : Command) (ending :
             gives = subst (λ (m : Met). Step unasked start command (conditions_with m (difference_in looked)) reply (state_in after_it r v)) (sym is_met) (subst (λ (q : Repository). Step unasked start command conditions reply (state_at q (phase_of store.held.collection) w)) after_is step);
             judged = λ other c reaped runs heard. absurd (subst (Unheard (phase_of (Some c))) (ap (λ (m : Met). m.child) (sym is_met) ∙ heard) (subst (λ (o : Option Collection). Unheard (phase_of o) store.met.child) runs un));
             settled = λ c reaped runs heard. absurd (subst (Unheard (phase_of (Some c))) (ap (λ (m : Met). m.child) (sym is_met) ∙ heard) (subst (λ (o : Option Collection). Unheard (phase_of o) store.met.child) runs un));
+            stays = λ c runs pair was. was;
             is_at = record { holds = holds; lawful = works_stay (image_records here.holds) (image_records holds) r r s.work v here.lawful (λ there. stays_still s.store.held store.held tables_same r r a here.holds holds) (omega arith) here.lawful.parents };
             seen = seen_ending r v command reply ending;
             only = nothing_by (hears command) (attempt_of s.store.held command) (ChangedBy s.store.held a.held command reply) a a (only_nowhere a NoFile);

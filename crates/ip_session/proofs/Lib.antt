@@ -4,6 +4,7 @@ pub mod Seeing
 pub mod NameSizes
 mod Reading
 pub mod Changing
+mod Damage
 pub mod SessionGoes
 pub mod DurableGoes
 pub mod Committing
@@ -17,5 +18,6 @@ mod Asking
 mod StartGoes
 mod CancelGoes
 mod FinishGoes
+mod Wanted
 mod FinishAsked
 mod Running

@@ -15,6 +15,7 @@ use Rattle.ip_image.proofs.OneRepository.{one_repository}
 use Rattle.ip_spec.specs.declared.command.Command.{Command}
 use Rattle.ip_spec.specs.declared.command.Target.{Target}
 use Rattle.ip_spec.specs.declared.met.Met.{Met}
+use Rattle.ip_spec.specs.declared.record.Record.{Record}
 use Rattle.ip_spec.specs.declared.reply.Reply.{Reply}
 use Rattle.ip_spec.specs.Merge.{Rule}
 use Rattle.ip_spec.specs.Path.{Bytes, space}
@@ -46,7 +47,7 @@ use Rattle.ip_session.specs.Session.{IsServing, IsWorking, state_in, met_only, c
 use Rattle.ip_session.proofs.NameSizes.{Short, merge_short, name_size}
 use Rattle.ip_session.proofs.SessionLemmas.{at, plainly, heard_none, unjudged, unsettled, hex_long, merge_refused}
 use Rattle.ip_session.proofs.Referring.{IsUnnamed, NamesNone, names_none}
-use Rattle.ip_session.proofs.Changing.{nothing_by, nothing_space, keeps_nothing}
+use Rattle.ip_session.proofs.Changing.{nothing_by, nothing_space, keeps_nothing, stays_only}
 use Rattle.ip_session.proofs.SessionGoes.{still_goes}
 use Rattle.ip_session.proofs.DurableGoes.{keeps_still, answered}
 use Rattle.ip_session.proofs.Placing.{unmoved}
@@ -93,12 +94,12 @@ module _ (target : Target) (branch : Bytes) (info : Info) where
       (λ long. merge_refused target branch info r (phase_of s.store.held.collection) (work_at s.work v))
       (only_nowhere a (ChangedBy s.store.held a.held merging reply))
 
-  pub unmerged_placed : (rule : Rule) (slot : Slot) (u : Unswept) (s : State) (v : View) (reply : Reply) → resolve s.repository target ≡ Err reply → PlacedBy rule slot u slot s v merging reply
-  unmerged_placed rule slot u s v reply is = by reply (subst NamesNone is (names_none s.repository target))
+  pub unmerged_placed : (rule : Rule) (records : ℕ → Option Record) (slot : Slot) (u : Unswept) (s : State) (v : View) (reply : Reply) → resolve s.repository target ≡ Err reply → PlacedBy rule records slot u slot s v merging reply
+  unmerged_placed rule records slot u s v reply is = by reply (subst NamesNone is (names_none s.repository target))
     where
-      by : (reply : Reply) → IsUnnamed reply → PlacedBy rule slot u slot s v merging reply
-      by (Reply.NoBranch other) un = unmoved slot u slot s v merging (Reply.NoBranch other) rule (λ h. h) (λ h. h) (λ l e. absurd (cc e)) (λ t e. absurd (cc e)) refl
-      by (Reply.NoCommit hash) un = unmoved slot u slot s v merging (Reply.NoCommit hash) rule (λ h. h) (λ h. h) (λ l e. absurd (cc e)) (λ t e. absurd (cc e)) refl
+      by : (reply : Reply) → IsUnnamed reply → PlacedBy rule records slot u slot s v merging reply
+      by (Reply.NoBranch other) un = unmoved records slot u slot s v merging (Reply.NoBranch other) rule (λ h. h) (λ h. h) (λ l e. absurd (cc e)) (λ t e. absurd (cc e)) refl
+      by (Reply.NoCommit hash) un = unmoved records slot u slot s v merging (Reply.NoCommit hash) rule (λ h. h) (λ h. h) (λ l e. absurd (cc e)) (λ t e. absurd (cc e)) refl
       by _ un = absurd un
 
 -- ---- the command
@@ -139,6 +140,7 @@ module _ (rule : Rule) (a b : Told) (s : Session) (store : Store) (phase_is : st
         gives = turns_on reply A;
         judged = unjudged a b s (record s { store = store; met = store.met }) r v (heard_none (phase_of s.store.held.collection) command tt store.met.child (turns_on reply A).0.child);
         settled = unsettled b s (record s { store = store; met = store.met }) reply (heard_none (phase_of s.store.held.collection) command tt store.met.child (turns_on reply A).0.child);
+        stays = stays_only s.store.held.collection NoFile a b only;
         is_at = works stay reply A;
         seen = refl;
         only = nothing_by (hears command) (attempt_of s.store.held command) (ChangedBy s.store.held a.held command reply) a b only;
@@ -161,6 +163,7 @@ module _ (rule : Rule) (a b : Told) (s : Session) (store : Store) (phase_is : st
         gives = turns_on reply A;
         judged = unjudged a b s (record s { store = store; met = store.met }) r v (heard_none (phase_of s.store.held.collection) command tt store.met.child (turns_on reply A).0.child);
         settled = unsettled b s (record s { store = store; met = store.met }) reply (heard_none (phase_of s.store.held.collection) command tt store.met.child (turns_on reply A).0.child);
+        stays = stays_only s.store.held.collection (MayChange a.held) a b does.only;
         is_at = works stay reply A;
         seen = refl;
         only = only_more a b _ (ChangedBy s.store.held a.held command reply) (λ file changed. (done, changed)) does.only;
@@ -204,6 +207,7 @@ module _ (rule : Rule) (a b : Told) (s : Session) (store : Store) (phase_is : st
     difference = None;
     gives = subst (λ (m : Met). Step rule (state_in s r v) command (conditions_of m) M.reply (state_at M.after (phase_of s.store.held.collection) (work_at s.work v))) (sym e) (M.turns (work_at s.work v) target named);
     judged = unjudged a b s (record s { store = store; met = met }) r v (ap (λ (m : Met). m.child) e);
+    stays = stays_only s.store.held.collection (MayChange a.held) a b M.took.changes.only;
     only = only_more a b (MayChange a.held) (TouchedBy s.store.held a.held command) (λ file changed. (refl, changed)) M.took.changes.only;
     files = keeps_store a b (MayChange a.held) (of_store a.held) M.took.changes.only;
     said = M.took.changes.only.said;
@@ -212,7 +216,7 @@ module _ (rule : Rule) (a b : Told) (s : Session) (store : Store) (phase_is : st
   }
 
   abbrev At : Reply → Type 0
-  At reply = PlacedBy rule s.store.held.slot s.store.held.unswept store.held.slot (state_in s r v) v command reply
+  At reply = PlacedBy rule (image_records here.holds) s.store.held.slot s.store.held.unswept store.held.slot (state_in s r v) v command reply
 
   abbrev Appended : Result Merge StoreFault → Type 0
   Appended made = AppendsMerge rule (image_records here.holds) r number branch info made s.store.held store.held a b
@@ -221,12 +225,12 @@ module _ (rule : Rule) (a b : Told) (s : Session) (store : Store) (phase_is : st
   Limits made = LimitsMerge rule (image_records here.holds) r number branch info made s.store.held
 
   still_at : (reply : Reply) → ¬ IsDurable reply command → ¬ HasCollected reply command → ((l : _) → reply ≢ Reply.Limit l) → store.held.slot ≡ s.store.held.slot → At reply
-  still_at reply not over none same = unmoved s.store.held.slot s.store.held.unswept store.held.slot (state_in s r v) v command reply rule not over none (λ t e. absurd (cc e)) same
+  still_at reply not over none same = unmoved (image_records here.holds) s.store.held.slot s.store.held.unswept store.held.slot (state_in s r v) v command reply rule not over none (λ t e. absurd (cc e)) same
 
   placed : (made : Result Merge StoreFault) → Appended made → Limits made → IfSome (merge_reply branch made) At
   placed (Ok (Merge.Current name)) A L = still_at (Reply.Current name) (λ h. h) (λ h. h) (λ l is. absurd (cc is)) (A tt)
   placed (Ok (Merge.Forward name)) A L = record {
-    done = λ _. record { more = A.more; commits = A.commits; are = (number, named, image_records here.holds, A.are); so = (A.appends.slot, A.room, A.sequence) };
+    done = λ _. record { more = A.more; commits = A.commits; are = (number, named, A.are); so = (A.appends.slot, A.room, A.sequence) };
     quiet = λ quiet _. absurd (quiet tt);
     collected = λ floor left may is. absurd may;
     ended = λ may is. absurd may;
@@ -235,7 +239,7 @@ module _ (rule : Rule) (a b : Told) (s : Session) (store : Store) (phase_is : st
     attempt = λ t is. absurd (cc is);
   }
   placed (Ok (Merge.Merged name)) A L = record {
-    done = λ _. record { more = A.more; commits = A.commits; are = (number, named, image_records here.holds, A.are); so = (A.appends.slot, A.room, A.sequence) };
+    done = λ _. record { more = A.more; commits = A.commits; are = (number, named, A.are); so = (A.appends.slot, A.room, A.sequence) };
     quiet = λ quiet _. absurd (quiet tt);
     collected = λ floor left may is. absurd may;
     ended = λ may is. absurd may;
@@ -255,7 +259,7 @@ module _ (rule : Rule) (a b : Told) (s : Session) (store : Store) (phase_is : st
     quiet = λ _ _. A tt;
     collected = λ floor left may is. absurd may;
     ended = λ may is. absurd may;
-    space = λ _ is. record { more = L.more; commits = L.commits; are = (number, named, image_records here.holds, L.are); so = L.short };
+    space = λ _ is. record { more = L.more; commits = L.commits; are = (number, named, L.are); so = L.short };
     sequence = λ _ is. absurd (cc is);
     attempt = λ t is. absurd (cc is);
   }
@@ -265,7 +269,7 @@ module _ (rule : Rule) (a b : Told) (s : Session) (store : Store) (phase_is : st
     collected = λ floor left may is. absurd may;
     ended = λ may is. absurd may;
     space = λ _ is. absurd (cc is);
-    sequence = λ _ is. record { more = L.more; commits = L.commits; are = (number, named, image_records here.holds, L.are); so = L.short };
+    sequence = λ _ is. record { more = L.more; commits = L.commits; are = (number, named, L.are); so = L.short };
     attempt = λ t is. absurd (cc is);
   }
   placed (Err (StoreFault.Limit _)) A L = record {

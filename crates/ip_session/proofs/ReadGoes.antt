@@ -3,7 +3,7 @@
 --     read_serves      the session goes on serving, whatever is told.      read_goes      it is answered.      read_cut      a fault of the ground or of its files cut it short
 use Rattle.std.proofs.Common.{◌≡◌, ℕ, Bool, true, false, refl, sym, ap, ◌∙◌, subst, Option, None, Ok, Err, IsTrue}
 use Rattle.std.specs.Prelude.{Result, IfOk, OnErr}
-use Rattle.ip_ground.specs.Told.{Told}
+use Rattle.ip_ground.specs.Told.{Told, NoFile}
 use Rattle.ip_image.proofs.HeadlineLaws.{pending_passes}
 use Rattle.ip_spec.specs.declared.command.Command.{Command}
 use Rattle.ip_spec.specs.declared.met.Met.{Met}
@@ -22,7 +22,7 @@ use Rattle.ip_held.proofs.Machine.{AsksNone}
 use Rattle.ip_session.specs.declared.session.Session.{Session}
 use Rattle.ip_session.specs.declared.session.SessionEnd.{SessionEnd}
 use Rattle.ip_session.specs.Session.{unasked, attempt_of, hears, IsServing, IsWorking, state_in, met_only, conditions_of, is_durable, ChangedBy, TouchedBy, IsAnswered, HasRead, GoesBy, CutBy}
-use Rattle.ip_session.proofs.Changing.{nothing_by, nothing_space, keeps_nothing}
+use Rattle.ip_session.proofs.Changing.{nothing_by, nothing_space, keeps_nothing, stays_only}
 use Rattle.ip_session.proofs.SessionLemmas.{plainly, heard_none, unjudged, unsettled}
 use Rattle.ip_session.proofs.DurableGoes.{keeps_still}
 
@@ -47,6 +47,7 @@ module _ (rule : Rule) (a b : Told) (s s' : Session) (r : Repository) (v : View)
         gives = by_any_rule rule (state_in s r v) command (conditions_of s'.met) reply (state_in s' r A.view) quiet A.gives;
         judged = unjudged a b s s' r v (heard_none (phase_of s.store.held.collection) command asks s'.met.child A.gives.0.child);
         settled = unsettled b s s' reply (heard_none (phase_of s.store.held.collection) command asks s'.met.child A.gives.0.child);
+        stays = stays_only s.store.held.collection NoFile a b looks.reads.only;
         seen = A.seen;
         is_at = record { holds = holds; lawful = subst (λ (records : ℕ → Option Record). IsLawful records r s'.work A.view) (sym (looks.records r here.holds holds)) A.lawful };
         only = nothing_by (hears command) (attempt_of s.store.held command) (ChangedBy s.store.held a.held command reply) a b looks.reads.only;
@@ -70,6 +71,7 @@ module _ (rule : Rule) (a b : Told) (s s' : Session) (r : Repository) (v : View)
         gives = subst (λ (m : Met). Step rule (state_in s r v) command (conditions_of m) t.0 t.1) (sym e)
             (plainly r (phase_of s.store.held.collection) (work_at s.work v) command false t.0 asks (λ h. absurd (cc h)), plain rule (state_in s r v) command (conditions_of (met_only false)) quiet);
         judged = unjudged a b s s' r v (ap (λ (m : Met). m.child) e);
+        stays = stays_only s.store.held.collection NoFile a b looks.reads.only;
         only = nothing_by (hears command) (attempt_of s.store.held command) (TouchedBy s.store.held a.held command) a b looks.reads.only;
         files = keeps_nothing a b looks.reads.only;
         said = looks.reads.only.said;

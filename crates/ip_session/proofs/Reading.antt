@@ -42,6 +42,7 @@ use Rattle.ip_tree.proofs.PlacedTrees.{IsSplit, split}
 use Rattle.ip_save.specs.Batches.{HasShortContents}
 use Rattle.ip_held.specs.Collecting.{phase_of}
 use Rattle.ip_held.specs.Rooted.{IsRooted}
+use Rattle.ip_held.specs.Causes.{IsStoreCause}
 use Rattle.ip_held.specs.Showing.{IsFetchedOr}
 use Rattle.ip_reads.specs.Shown.{IsShown}
 use Rattle.ip_held.specs.Held.{IsOf, Holds, SameTables, image_records}
@@ -59,6 +60,7 @@ use Rattle.ip_held.proofs.Stepping.{same_tables}
 use Rattle.ip_session.specs.declared.session.Session.{Session}
 use Rattle.ip_session.specs.declared.session.SessionEnd.{SessionEnd}
 use Rattle.ip_session.specs.Session.{unasked, IsIn, IsWorking, state_in, met_only, conditions_of, IsLong, IsAnswered, HasRead, IsHeld, EndsBy, Fails, met_failed, tree_fault}
+use Rattle.ip_session.proofs.Damage.{TellsApart, cause_apart}
 use Rattle.ip_session.proofs.SessionLemmas.{at, AsksWork, NoneGivenUp, given_is_short, given_up, Refusable, stat_of, empty_done, set_done, set_long, set_wide, rm_done, rm_absent, get_done, list_done, stat_done, hash_done, hash_refused, ok_is_short, at_is_short, memory_is_short, stat_is_short}
 use Rattle.ip_session.proofs.NameSizes.{name_size}
 use Rattle.ip_session.proofs.Seeing.{memory_seen, limit_seen, given_seen}
@@ -180,15 +182,15 @@ pub met_stays : (fault : StoreFault) (met : Met) → fault ≢ StoreFault.Memory
 met_stays StoreFault.Memory met not = absurd (not refl)
 met_stays _ met not = refl
 
-pub ends : (fault : StoreFault) (command : Command) (met met' : Met) (result : Result Reply SessionEnd) (held : Type 0) → Fails fault met met' result → (held → (s : State) × Refuses s command fault) → IfErr result (EndsBy held)
-ends StoreFault.Ground command met met' result held f refuses = subst (λ (x : Result Reply SessionEnd). IfErr x (EndsBy held)) (sym f.0) tt
-ends (StoreFault.Damaged at names) command met met' result held f refuses = subst (λ (x : Result Reply SessionEnd). IfErr x (EndsBy held)) (sym f.0) (λ h. (refuses h).1)
-ends StoreFault.Memory command met met' result held f refuses = subst (λ (x : Result Reply SessionEnd). IfErr x (EndsBy held)) (sym f.0) tt
-ends (StoreFault.Limit limit) command met met' result held f refuses = subst (λ (x : Result Reply SessionEnd). IfErr x (EndsBy held)) (sym f.0) tt
-ends (StoreFault.GivenUp number) command met met' result held f refuses = subst (λ (x : Result Reply SessionEnd). IfErr x (EndsBy held)) (sym f.0) tt
-ends (StoreFault.Leaving number) command met met' result held f refuses = subst (λ (x : Result Reply SessionEnd). IfErr x (EndsBy held)) (sym f.0) tt
-ends (StoreFault.HeadMoved name) command met met' result held f refuses = subst (λ (x : Result Reply SessionEnd). IfErr x (EndsBy held)) (sym f.0) tt
-ends (StoreFault.Existing name) command met met' result held f refuses = subst (λ (x : Result Reply SessionEnd). IfErr x (EndsBy held)) (sym f.0) tt
+pub ends : (fault : StoreFault) (command : Command) (met met' : Met) (result : Result Reply SessionEnd) (held : Type 0) → Fails fault met met' result → TellsApart fault → (held → (s : State) × Refuses s command fault) → IfErr result (EndsBy held)
+ends StoreFault.Ground command met met' result held f apart refuses = subst (λ (x : Result Reply SessionEnd). IfErr x (EndsBy held)) (sym f.0) tt
+ends (StoreFault.Damaged at names) command met met' result held f apart refuses = subst (λ (x : Result Reply SessionEnd). IfErr x (EndsBy held)) (sym f.0) ((λ h. (refuses h).1), apart)
+ends StoreFault.Memory command met met' result held f apart refuses = subst (λ (x : Result Reply SessionEnd). IfErr x (EndsBy held)) (sym f.0) tt
+ends (StoreFault.Limit limit) command met met' result held f apart refuses = subst (λ (x : Result Reply SessionEnd). IfErr x (EndsBy held)) (sym f.0) tt
+ends (StoreFault.GivenUp number) command met met' result held f apart refuses = subst (λ (x : Result Reply SessionEnd). IfErr x (EndsBy held)) (sym f.0) tt
+ends (StoreFault.Leaving number) command met met' result held f apart refuses = subst (λ (x : Result Reply SessionEnd). IfErr x (EndsBy held)) (sym f.0) tt
+ends (StoreFault.HeadMoved name) command met met' result held f apart refuses = subst (λ (x : Result Reply SessionEnd). IfErr x (EndsBy held)) (sym f.0) tt
+ends (StoreFault.Existing name) command met met' result held f apart refuses = subst (λ (x : Result Reply SessionEnd). IfErr x (EndsBy held)) (sym f.0) tt
 
 -- ---- what a command did that reads
 
@@ -588,8 +590,8 @@ module _ (tells : Bool) (old new : Told) (s : Session) (store : Store) (same : S
       (λ told r v here. (here.lawful.tree, fetched_refuses (IsReadFor r here.holds) (state_in s r v) command fault (read told r here.holds (retained r here.holds.tables))))
 
 pub unfetched_ends : (s : Session) (old : Told) (n : ℕ) (tells : Bool) (command : Command) (met : Met) (fault : StoreFault) (result : Result Reply SessionEnd) → ((r : Repository) → IsOf s.store.held r → IsTrue (is_retained r n)) → Fails fault s.met met result
-    → (IsTrue tells → (r : Repository) (held : Holds s.store.held old r) → IsTrue (is_retained r n) → IsFetchedOr (IsTreeOf (image_records held) r n) (Err fault)) → IfErr result (EndsBy (IsHeld tells old s))
-unfetched_ends s old n tells command met fault result retained f read = ends fault command s.met met result (IsHeld tells old s) f
+    → IsStoreCause tells old s.store.held.space fault → (IsTrue tells → (r : Repository) (held : Holds s.store.held old r) → IsTrue (is_retained r n) → IsFetchedOr (IsTreeOf (image_records held) r n) (Err fault)) → IfErr result (EndsBy (IsHeld tells old s))
+unfetched_ends s old n tells command met fault result retained f cause read = ends fault command s.met met result (IsHeld tells old s) f (cause_apart tells old s.store.held.space fault cause)
     (λ (told, (r, v, here)). (state_in s r v, fetched_refuses (IsTreeOf (image_records here.holds) r n) (state_in s r v) command fault (read told r here.holds (retained r here.holds.tables))))
 
 pub ungrafted_gives : (r : Repository) (phase : Machine.Phase) (w : Machine.Work) (target : Target) (from to : Path) (n : ℕ) → NoneGivenUp r w → resolve r target ≡ Ok n → false ≡ not (is_empty (subtree (tree_at r n) from))

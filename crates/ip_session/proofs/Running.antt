@@ -26,6 +26,7 @@ use Rattle.ip_session.specs.declared.session.SessionEnd.{SessionEnd}
 use Rattle.ip_session.specs.Asking.{HandlesNone, MayReap, MeetsNone, TellsNone}
 use Rattle.ip_session.specs.Running.{IsKnown, Runs, Ran}
 use Rattle.ip_session.specs.Session.{unasked, counted_end, EndsBy, IsHeld, IsIn, IsServing, IsWorking, HasRead, IsAnswered, CutBy, is_durable, met_only, attempt_of, hears, MetDamage, StillBy}
+use Rattle.ip_session.specs.Wanting.{Wants}
 use Rattle.ip_session.proofs.Asking.{plain_asked, plain_counts, plain_quiet}
 use Rattle.ip_session.proofs.Changing.{nothing_by}
 use Rattle.ip_session.proofs.ClearGoes.{read_clear}
@@ -36,7 +37,7 @@ use Rattle.ip_session.proofs.ReadGoes.{read_serves, read_goes, read_cut}
 pub ends_more : (result : Result Reply SessionEnd) (held more : Type 0) → (more → held) → IfErr result (EndsBy held) → IfErr result (EndsBy more)
 ends_more (Ok reply) held more by ends = tt
 ends_more (Err SessionEnd.Ground) held more by ends = tt
-ends_more (Err (SessionEnd.Damaged at_ names)) held more by ends = λ known. ends (by known)
+ends_more (Err (SessionEnd.Damaged at_ names)) held more by ends = (λ known. ends.0 (by known), ends.1)
 
 pub runs_as : (told known : Type 0) (rule : Rule) (a b : Told) (s s' : Session) (command command' : Command) (result : Result Reply SessionEnd) → command ≡ command' → Runs told known rule a b s s' command' result → Runs told known rule a b s s' command result
 runs_as told known rule a b s s' command command' result is runs = subst (λ (x : Command). Runs told known rule a b s s' x result) (sym is) runs
@@ -92,22 +93,23 @@ Known tells rule = IsTrue tells × IsDecisive rule
 module _ {tells : Bool} {rule : Rule} {a b : Told} {p q : Noted} {spawns : Bool} {held : Option ℕ} {dir : Bytes} {x : spawn.Told} {m : SpawnCounts} {s s' : Session} {result : Result Reply SessionEnd} (command command' : Command) (is : command ≡ command') where
   -- it has to do with no child
   pub ran_plain : HandlesNone command' → held ≡ child_of s.store.held.collection → Runs (IsTrue tells) (Known tells rule) rule a b s s' command' result → IfOk result TellsNone → MeetsNone s'.met → s'.store.held.collection ≡ s.store.held.collection → Counts counted_end result p q
-      → Ran (IsTrue tells) (Known tells rule) rule a b p q spawns held dir x x m m s s' command result
-  ran_plain handles child runs none meets same counts = subst (λ (k : Command). Ran (IsTrue tells) (Known tells rule) rule a b p q spawns held dir x x m m s s' k result) (sym is) (record {
+      → Wants s s' command' result → Ran (IsTrue tells) (Known tells rule) rule a b p q spawns held dir x x m m s s' command result
+  ran_plain handles child runs none meets same counts memory = subst (λ (k : Command). Ran (IsTrue tells) (Known tells rule) rule a b p q spawns held dir x x m m s s' k result) (sym is) (record {
     runs = runs;
     child = child ∙ sym (ap child_of same);
     asked = plain_asked spawns dir x s s' command' result m none meets same;
     quiet = plain_quiet result s'.met p q none meets counts;
+    memory = memory;
     counts = plain_counts command' result s'.met p q handles counts;
   })
 
   pub ran_durable : HandlesNone command' → IsNoMerge command' → held ≡ child_of s.store.held.collection → Runs (IsTrue tells) (IsTrue tells) unasked a b s s' command' result → IfOk result TellsNone → MeetsNone s'.met → s'.store.held.collection ≡ s.store.held.collection → Counts counted_end result p q
-      → Ran (IsTrue tells) (Known tells rule) rule a b p q spawns held dir x x m m s s' command result
-  ran_durable handles plain child runs none meets same counts = ran_plain handles child (by_any_rule tells rule a b s s' command' result plain runs) none meets same counts
+      → Wants s s' command' result → Ran (IsTrue tells) (Known tells rule) rule a b p q spawns held dir x x m m s s' command result
+  ran_durable handles plain child runs none meets same counts memory = ran_plain handles child (by_any_rule tells rule a b s s' command' result plain runs) none meets same counts memory
 
   pub ran_read : HandlesNone command' → is_durable command' ≡ false → s.met ≡ met_only false → IsServing s → held ≡ child_of s.store.held.collection → HasRead tells a b s s' command' result → IfErr result (EndsBy (IsHeld tells a s)) → IfOk result TellsNone → MeetsNone s'.met
-      → s'.store.held.collection ≡ s.store.held.collection → Counts counted_end result p q → Ran (IsTrue tells) (Known tells rule) rule a b p q spawns held dir x x m m s s' command result
-  ran_read handles quiet unmet serving child has cause none meets same counts = ran_plain handles child (runs_read tells rule a b s s' command' result quiet handles unmet serving has cause) none meets same counts
+      → s'.store.held.collection ≡ s.store.held.collection → Counts counted_end result p q → Wants s s' command' result → Ran (IsTrue tells) (Known tells rule) rule a b p q spawns held dir x x m m s s' command result
+  ran_read handles quiet unmet serving child has cause none meets same counts memory = ran_plain handles child (runs_read tells rule a b s s' command' result quiet handles unmet serving has cause) none meets same counts memory
 
 -- it speaks to one
 pub ran_child : {tells : Bool} {rule : Rule} {a b : Told} {p q : Noted} {spawns : Bool} {held : Option ℕ} {dir : Bytes} {x y : spawn.Told} {m n : SpawnCounts} {s s' : Session} {result : Result Reply SessionEnd} (command command' : Command) → command ≡ command' → IsNoMerge command'
@@ -118,13 +120,14 @@ ran_child {tells = tells} {rule = rule} {a = a} {b = b} {p = p} {q = q} {spawns 
       child = ran.child;
       asked = ran.asked;
       quiet = ran.quiet;
+      memory = ran.memory;
       counts = ran.counts;
     })
 
 -- it asks nothing of the ground
 pub ran_within : {tells : Bool} {rule : Rule} {a : Told} {p : Noted} {spawns : Bool} {held : Option ℕ} {dir : Bytes} {x : spawn.Told} {m : SpawnCounts} {s s' : Session} (command command' : Command) (reply : Reply) → command ≡ command' → HandlesNone command' → is_durable command' ≡ false → s.met ≡ met_only false → IsServing s
     → held ≡ child_of s.store.held.collection → ((r : Repository) → IsIn s r → IsIn s' r) → s'.store.held ≡ s.store.held
-    → ((records : ℕ → Option Record) (r : Repository) (v : View) → IsOf s.store.held r → IsLawful records r s.work v → IsAnswered records s s' r v command' reply) → TellsNone reply → MeetsNone s'.met
+    → ((records : ℕ → Option Record) (r : Repository) (v : View) → IsOf s.store.held r → IsLawful records r s.work v → IsAnswered records s s' r v command' reply) → TellsNone reply → MeetsNone s'.met → Wants s s' command' (Ok reply)
     → Ran (IsTrue tells) (Known tells rule) rule a a p p spawns held dir x x m m s s' command (Ok reply)
-ran_within {tells = tells} {a = a} {s = s} {s' = s'} command command' reply is handles quiet unmet serving child tables same answered none meets =
-    ran_read command command' is handles quiet unmet serving child (within_read tells a s s' command' reply tables same answered) tt none meets (ap (λ (k : Held). k.collection) same) refl
+ran_within {tells = tells} {a = a} {s = s} {s' = s'} command command' reply is handles quiet unmet serving child tables same answered none meets memory =
+    ran_read command command' is handles quiet unmet serving child (within_read tells a s s' command' reply tables same answered) tt none meets (ap (λ (k : Held). k.collection) same) refl memory

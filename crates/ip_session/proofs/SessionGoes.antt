@@ -19,11 +19,13 @@ use Rattle.ip_spec.specs.Path.{Bytes}
 use Rattle.ip_spec.specs.Repository.{Repository}
 use Rattle.ip_spec.specs.Machine.{State, Conditions}
 use Rattle.ip_spec.specs.Script.{LineStep}
+use Rattle.ip_spec.specs.Step.{IsSwept}
 use Rattle.ip_spec.specs.Text.{reply_text}
 use Rattle.ip_spec.specs.View.{View}
 use Rattle.ip_merge.specs.Rules.{IsDecisive}
 use Rattle.ip_session.specs.declared.session.Session.{Session}
 use Rattle.ip_session.specs.declared.session.SessionEnd.{SessionEnd}
+use Rattle.ip_held.specs.Held.{image_records}
 use Rattle.ip_held.specs.Views.{IsViewAfter}
 use Rattle.ip_session.specs.Asking.{QuietIfLong, Spawns}
 use Rattle.ip_session.specs.Clearing.{ClearIn}
@@ -31,7 +33,7 @@ use Rattle.ip_session.specs.Session.{CountsIn, IsWorking, state_in, met_only, co
 use Rattle.ip_session.proofs.Seeing.{memory_seen, bad_seen}
 use Rattle.ip_session.specs.Placing.{PlacedIn}
 use Rattle.ip_session.proofs.Asking.{unwritten, whole_asked}
-use Rattle.ip_session.proofs.ClearGoes.{quiet_clear}
+use Rattle.ip_session.proofs.ClearGoes.{quiet_clear, clear_same}
 use Rattle.ip_session.proofs.Changing.{nothing_only, nothing_space, keeps_nothing}
 use Rattle.ip_session.proofs.Placing.{quiet_placed, still_slot}
 use Rattle.ip_session.proofs.SessionLemmas.{unjudged, unsettled, memory_is_short, bad_is_short, bad_line}
@@ -46,6 +48,7 @@ still_goes a s met r v here Only Gives Views reply heard gives seen refused none
   gives = gives;
   judged = unjudged a a s (record s { met = met }) r v heard;
   settled = unsettled a s (record s { met = met }) reply heard;
+  stays = λ c runs pair was. was;
   is_at = here;
   seen = seen;
   only = none;
@@ -70,6 +73,7 @@ lined rule a b s s' met r v command line reply served one h = record {
   gives = inl (command, served, h.gives);
   judged = h.judged;
   settled = h.settled;
+  stays = h.stays;
   is_at = h.is_at;
   seen = record { command = λ other spelled. subst (λ (c : Command). IsViewAfter r v c reply h.view) (sym (one other spelled)) h.seen; none = λ none. absurd (none command served) };
   only = record { command = λ other spelled. subst (λ (c : Command). OnlyBy s.store.held a b c reply) (sym (one other spelled)) h.only; none = λ none. absurd (none command served) };
@@ -90,7 +94,7 @@ lined_ok rule a b s s' met r v command line (Err end) served one h = tt
 pub lined_cut : (rule : Rule) (a b : Told) (s s' : Session) (met : Met) (r : Repository) (v : View) (command : Command) (line : Bytes) (result : Result Reply SessionEnd) → IsLineOf command line
     → OnErr result (CutBy rule a b (record s { met = met }) s' r v command) → OnErr result (CutIn rule a b s s' r v line)
 lined_cut rule a b s s' met r v command line (Ok reply) served h = tt
-lined_cut rule a b s s' met r v command line (Err end) served h = record { reply = h.reply; after = h.after; difference = h.difference; gives = inl (command, served, h.gives); judged = h.judged; only = (command, served, h.only); files = h.files; said = h.said; space = h.space; atomic = h.atomic }
+lined_cut rule a b s s' met r v command line (Err end) served h = record { reply = h.reply; after = h.after; difference = h.difference; gives = inl (command, served, h.gives); judged = h.judged; stays = h.stays; only = (command, served, h.only); files = h.files; said = h.said; space = h.space; atomic = h.atomic }
 
 -- a line that is no command
 pub bad_goes : (rule : Rule) (a : Told) (s : Session) (met : Met) (r : Repository) (v : View) (here : IsWorking a s r v) (line : Bytes) (place : ℕ) → met ≡ met_only false → IsBadAt IsLineOf line place → length line < 2 ^ 64
@@ -127,6 +131,7 @@ memory_instead a b s s' met r v Only Gives Views reply h long e seen none = reco
   gives = let x = h.spared long in subst (λ (m : Met). Gives (conditions_of m) Reply.Memory (state_in s' h.after h.view)) (sym e) (subst (Gives (conditions_of (met_only true)) Reply.Memory) (sym x.same) x.refused);
   judged = unjudged a b s (record s' { met = met }) r v (ap (λ (m : Met). m.child) e);
   settled = unsettled b s (record s' { met = met }) Reply.Memory (ap (λ (m : Met). m.child) e);
+  stays = h.stays;
   is_at = h.is_at;
   seen = subst (Views Reply.Memory) (sym (h.spared long).seen) seen;
   only = none (h.still long);
@@ -144,7 +149,7 @@ abbrev Tells : (tells : Bool) (rule : Rule) (a b : Told) (s s' : Session) (line 
 Tells tells rule a b s s' line reply = IsTrue tells → IsDecisive rule → (r : Repository) (v : View) → IsWorking a s r v → GoesIn rule a b s s' r v line reply
 
 abbrev Places : (tells : Bool) (rule : Rule) (a : Told) (s s' : Session) (line : Bytes) (reply : Reply) → Type 0
-Places tells rule a s s' line reply = IsTrue tells → IsDecisive rule → (r : Repository) (v : View) → IsWorking a s r v → PlacedIn rule s.store.held.slot s.store.held.unswept s'.store.held.slot (state_in s r v) v line reply
+Places tells rule a s s' line reply = IsTrue tells → IsDecisive rule → (r : Repository) (v : View) (here : IsWorking a s r v) → PlacedIn rule (image_records here.holds) s.store.held.slot s.store.held.unswept s'.store.held.slot (state_in s r v) v line reply
 
 abbrev Clears : (tells : Bool) (a b : Told) (s s' : Session) (line : Bytes) (reply : Reply) → Type 0
 Clears tells a b s s' line reply = IsTrue tells → (r : Repository) (v : View) → IsWorking a s r v → ClearIn a b s s' line reply
@@ -152,7 +157,7 @@ Clears tells a b s s' line reply = IsTrue tells → (r : Repository) (v : View) 
 -- what was written of its reply
 module _ (tells : Bool) (rule : Rule) (a b : Told) (s s' : Session) (met : Met) (line : Bytes) (reply : Reply) where
   abbrev Written : Reply → Type 0
-  Written written = (IsTrue tells → IsDecisive rule → (r : Repository) (v : View) → IsWorking a s r v → GoesIn rule a b s (record s' { met = met }) r v line written × PlacedIn rule s.store.held.slot s.store.held.unswept s'.store.held.slot (state_in s r v) v line written)
+  Written written = (IsTrue tells → IsDecisive rule → (r : Repository) (v : View) (here : IsWorking a s r v) → GoesIn rule a b s (record s' { met = met }) r v line written × PlacedIn rule (image_records here.holds) s.store.held.slot s.store.held.unswept s'.store.held.slot (state_in s r v) v line written)
       × (IsTrue tells → (r : Repository) (v : View) → IsWorking a s r v → ClearIn a b s (record s' { met = met }) line written)
 
   whole_goes : met ≡ s'.met → Tells tells rule a b s s' line reply → Places tells rule a s s' line reply → Clears tells a b s s' line reply → Written reply
@@ -161,24 +166,24 @@ module _ (tells : Bool) (rule : Rule) (a b : Told) (s s' : Session) (met : Met) 
     λ told r v here. subst (λ (m : Met). ClearIn a b s (record s' { met = m }) line reply) (sym is) (clears told r v here),
   )
 
-  memory_goes : IsLong reply → met ≡ met_only true → Tells tells rule a b s s' line reply → Clears tells a b s s' line reply → Written Reply.Memory
-  memory_goes long is goes clears = (
+  memory_goes : IsLong reply → ¬ IsSwept reply → met ≡ met_only true → Tells tells rule a b s s' line reply → Clears tells a b s s' line reply → Written Reply.Memory
+  memory_goes long unswept is goes clears = (
     λ told decisive r v here.
         let went = goes told decisive r v here in (
           memory_instead a b s s' met r v (OnlyIn s.store.held a b line) (LineStep IsLineOf rule (state_in s r v) line) (IsViewIn r v line) reply went long is (refused_in r v line) (nothing_only s.store.held a b line Reply.Memory),
-          quiet_placed rule s.store.held.slot s.store.held.unswept s'.store.held.slot (state_in s r v) v line Reply.Memory (λ command h. h) (λ command h. h) (λ l is. absurd (cc is)) tt (still_slot s.store.held s'.store.held r went.after a b here.holds went.is_at.holds (went.still long)),
+          quiet_placed rule (image_records here.holds) s.store.held.slot s.store.held.unswept s'.store.held.slot (state_in s r v) v line Reply.Memory (λ command h. h) (λ command h. h) (λ l is. absurd (cc is)) tt (still_slot s.store.held s'.store.held r went.after a b here.holds went.is_at.holds (went.still long)),
         ),
-    λ told r v here. quiet_clear a b s (record s' { met = met }) line Reply.Memory (λ h. h) (clears told r v here).keeps,
+    λ told r v here. quiet_clear a b s (record s' { met = met }) line Reply.Memory (λ h. h) (clears told r v here).keeps (clear_same a b s s' line reply unswept (clears told r v here)),
   )
 
   module _ (spawner_tells : Bool) (dir : Bytes) (x y : spawn.Told) (m n : SpawnCounts) (old new : Noted) (text : Bytes) where
     pub written_goes : Tells tells rule a b s s' line reply → Writes reply s'.met met text → Places tells rule a s s' line reply → Clears tells a b s s' line reply → Spawns spawner_tells dir x y s s' line (Ok reply) m n → CountsIn line (Ok reply) s'.met old new → QuietIfLong s'.met old new reply
         → (written : Reply) × (text ≡ reply_text written) × Spawns spawner_tells dir x y s (record s' { met = met }) line (Ok written) m n × CountsIn line (Ok written) met old new
-        × (IsTrue tells → IsDecisive rule → (r : Repository) (v : View) → IsWorking a s r v → GoesIn rule a b s (record s' { met = met }) r v line written × PlacedIn rule s.store.held.slot s.store.held.unswept s'.store.held.slot (state_in s r v) v line written)
+        × (IsTrue tells → IsDecisive rule → (r : Repository) (v : View) (here : IsWorking a s r v) → GoesIn rule a b s (record s' { met = met }) r v line written × PlacedIn rule (image_records here.holds) s.store.held.slot s.store.held.unswept s'.store.held.slot (state_in s r v) v line written)
         × (IsTrue tells → (r : Repository) (v : View) → IsWorking a s r v → ClearIn a b s (record s' { met = met }) line written)
     written_goes goes (inl whole) placed clears spawns counts quiet =
         let told = whole_asked spawner_tells dir x y s s' met line reply m n old new spawns counts whole.0 in
         (let goes = whole_goes whole.0 goes placed clears in (reply, whole.1, told.0, told.1, goes.0, goes.1))
     written_goes goes (inr refused) placed clears spawns counts quiet =
         let told = unwritten spawner_tells dir x y s s' met line reply m n old new spawns refused.0 quiet refused.1 in
-        (let went = memory_goes refused.0 refused.1 goes clears in (Reply.Memory, refused.2, told.0, told.1, went.0, went.1))
+        (let went = memory_goes refused.0 (quiet refused.0).3 refused.1 goes clears in (Reply.Memory, refused.2, told.0, told.1, went.0, went.1))

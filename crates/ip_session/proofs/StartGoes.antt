@@ -1,5 +1,5 @@
 -- What a session does that began a collection, or was to begin one.
---     runs_none, runs_at, retained_at      the phase that the store tells
+--     idle_by, runs_none, runs_at, retained_at      the phase that the store tells
 --     step_turned      what the store answered is a step of the machine
 --     busy_goes, unnamed_start      one runs, or no commit has the name that was given.      quiet_start      and where the records lie then
 --     start_goes      the store answered it.      start_cut      a fault of the ground cut it short.      start_placed      where its record lies.      start_serves      the session goes on serving
@@ -11,6 +11,7 @@ use Rattle.ip_ground.proofs.Spans.{only_nowhere}
 use Rattle.ip_spec.specs.declared.command.Command.{Command}
 use Rattle.ip_spec.specs.declared.command.Target.{Target}
 use Rattle.ip_spec.specs.declared.met.Met.{Met}
+use Rattle.ip_spec.specs.declared.record.Record.{Record}
 use Rattle.ip_spec.specs.declared.reply.Reply.{Reply}
 use Rattle.ip_spec.specs.declared.met.Phase.{Phase as ToldPhase}
 use Rattle.ip_spec.specs.Machine.{Phase, Work as MachineWork, State, Limit, phase_told}
@@ -43,7 +44,7 @@ use Rattle.ip_session.specs.Placing.{HasCollected, PlacedBy, AttemptsLeft}
 use Rattle.ip_session.specs.Session.{unasked, IsServing, IsWorking, state_in, met_only, conditions_of, IsLong, IsDurable, ChangedBy, TouchedBy, OnlyBy, GoesBy, CutBy}
 use Rattle.ip_session.specs.Starting.{HeldReplies, IsFound, StartReplies}
 use Rattle.ip_session.proofs.Asking.{both_some}
-use Rattle.ip_session.proofs.Changing.{keeps_nothing, nothing_by, nothing_space}
+use Rattle.ip_session.proofs.Changing.{keeps_nothing, nothing_by, nothing_space, stays_beside}
 use Rattle.ip_session.proofs.Placing.{unmoved}
 use Rattle.ip_session.proofs.Referring.{IsUnnamed, NamesNone, names_none}
 use Rattle.ip_session.proofs.SessionGoes.{still_goes}
@@ -76,6 +77,10 @@ step_turned s command met reply next is turns =
 -- ---- the phase that the store tells
 
 -- no collection runs, as its test says
+pub idle_by : (o : Option Collection) → ((n : ℕ) (k : Bool) → phase_told (phase_of o) ≢ ToldPhase.Collecting n k) → o ≡ None
+idle_by None not = refl
+idle_by (Some c) not = absurd (not c.commit (is_some c.exit) refl)
+
 pub runs_none : (o : Option Collection) → ((n : ℕ) (k : Bool) → phase_told (phase_of o) ≢ ToldPhase.Collecting n k) → phase_at (phase_of o) ≡ None
 runs_none None not = refl
 runs_none (Some c) not = absurd (not c.commit (is_some c.exit) refl)
@@ -158,15 +163,15 @@ module _ (a : Told) (s : Session) (r : Repository) (v : View) (here : IsWorking 
   pub unnamed_start : (reply : Reply) → s.met ≡ met_only false → phase_at (phase_of s.store.held.collection) ≡ None → resolve r target ≡ Err reply → quietly reply
   unnamed_start reply e idle none = quiet_goes reply e (unnamed_step r (phase_of s.store.held.collection) (work_at s.work v) target reply idle none)
 
-pub busy_placed : (slot : Slot) (u : Unswept) (s : State) (v : View) (target : Target) (name : Hash) → PlacedBy unasked slot u slot s v (Command.Collect target) (Reply.Busy name)
-busy_placed slot u s v target name = unmoved slot u slot s v (Command.Collect target) (Reply.Busy name) unasked (λ h. h) (λ h. h) (λ l is. absurd (cc is)) (λ t is. tt) refl
+pub busy_placed : (records : ℕ → Option Record) (slot : Slot) (u : Unswept) (s : State) (v : View) (target : Target) (name : Hash) → PlacedBy unasked records slot u slot s v (Command.Collect target) (Reply.Busy name)
+busy_placed records slot u s v target name = unmoved records slot u slot s v (Command.Collect target) (Reply.Busy name) unasked (λ h. h) (λ h. h) (λ l is. absurd (cc is)) (λ t is. tt) refl
 
-pub unnamed_start_placed : (slot : Slot) (u : Unswept) (s : State) (v : View) (target : Target) (reply : Reply) → resolve s.repository target ≡ Err reply → PlacedBy unasked slot u slot s v (Command.Collect target) reply
-unnamed_start_placed slot u s v target reply is = by reply (subst NamesNone is (names_none s.repository target))
+pub unnamed_start_placed : (records : ℕ → Option Record) (slot : Slot) (u : Unswept) (s : State) (v : View) (target : Target) (reply : Reply) → resolve s.repository target ≡ Err reply → PlacedBy unasked records slot u slot s v (Command.Collect target) reply
+unnamed_start_placed records slot u s v target reply is = by reply (subst NamesNone is (names_none s.repository target))
   where
-    by : (reply : Reply) → IsUnnamed reply → PlacedBy unasked slot u slot s v (Command.Collect target) reply
-    by (Reply.NoBranch other) un = unmoved slot u slot s v (Command.Collect target) (Reply.NoBranch other) unasked (λ h. h) (λ h. h) (λ l e. absurd (cc e)) (λ t e. tt) refl
-    by (Reply.NoCommit hash) un = unmoved slot u slot s v (Command.Collect target) (Reply.NoCommit hash) unasked (λ h. h) (λ h. h) (λ l e. absurd (cc e)) (λ t e. tt) refl
+    by : (reply : Reply) → IsUnnamed reply → PlacedBy unasked records slot u slot s v (Command.Collect target) reply
+    by (Reply.NoBranch other) un = unmoved records slot u slot s v (Command.Collect target) (Reply.NoBranch other) unasked (λ h. h) (λ h. h) (λ l e. absurd (cc e)) (λ t e. tt) refl
+    by (Reply.NoCommit hash) un = unmoved records slot u slot s v (Command.Collect target) (Reply.NoCommit hash) unasked (λ h. h) (λ h. h) (λ l e. absurd (cc e)) (λ t e. tt) refl
     by _ un = absurd un
 
 -- ---- the store was asked
@@ -187,6 +192,10 @@ module _ (a b : Told) (s : Session) (store : Store) (r : Repository) (v : View) 
   gives : (reply : Reply) → Answers reply → Step unasked (state_in s r v) command (conditions_of store.met) reply (state_in (after_it store.met) r v)
   gives reply A = step_turned (state_in s r v) command store.met reply (state_in (after_it store.met) r v) tt ((A target named).turns (work_at s.work v))
 
+  -- the one that is drawn is not that of a collection that runs
+  other_attempt : (c : Collection) → s.store.held.collection ≡ Some c → c.job.attempt ≢ s.store.held.slot.next_attempt
+  other_attempt c runs e = let drawn = (subst (IsPhaseOf s.store.held.slot r) runs here.holds.tables.phase).told.attempt in absurd (omega (arith, e, drawn))
+
   -- the attempt was drawn
   begun_goes : (begun : Result Hash CollectFault) (reply : Reply) → IsBegun begun → IsDurable reply command → ¬ IsLong reply → Answers reply → StartsCollection r s.store.held.slot.next_attempt begun store.held a b
       → ((q : Repository) (now : Holds store.held b q) → RecordsStay (image_records here.holds) (image_records now)) → Went store.met reply
@@ -199,6 +208,7 @@ module _ (a b : Told) (s : Session) (store : Store) (r : Repository) (v : View) 
         gives = gives reply A;
         judged = unjudged a b s (after_it store.met) r v (heard_none (phase_of s.store.held.collection) command tt store.met.child (gives reply A).0.child);
         settled = unsettled b s (after_it store.met) reply (heard_none (phase_of s.store.held.collection) command tt store.met.child (gives reply A).0.child);
+        stays = stays_beside s.store.held.collection s.store.held.slot.next_attempt (MayChange a.held) a b M.only other_attempt;
         is_at = record { holds = holds; lawful = works_stay (image_records here.holds) (image_records holds) r r s.work v here.lawful (λ there. stay r holds) (omega arith) here.lawful.parents };
         seen = refl;
         only = for_more s.store.held.slot.next_attempt (MayChange a.held) (ChangedBy s.store.held a.held command reply) a b (λ file may. (done, may)) M.only;
@@ -229,6 +239,7 @@ module _ (a b : Told) (s : Session) (store : Store) (r : Repository) (v : View) 
           gives = step;
           judged = unjudged a a s (record s { store = noting s.store.held; met = now }) r v (heard_none (phase_of s.store.held.collection) command tt now.child step.0.child);
           settled = unsettled a s (record s { store = noting s.store.held; met = now }) reply (heard_none (phase_of s.store.held.collection) command tt now.child step.0.child);
+          stays = λ c runs pair was. was;
           is_at = here;
           seen = refl;
           only = nothing_by false (Some s.store.held.slot.next_attempt) (ChangedBy s.store.held a.held command reply) a a (only_nowhere a NoFile);
@@ -275,6 +286,7 @@ module _ (a b : Told) (s : Session) (store : Store) (r : Repository) (v : View) 
         difference = None;
         gives = subst (λ (m : Met). Step unasked (state_in s r v) command (conditions_of m) t.0 t.1) (sym e) (plainly r (phase_of s.store.held.collection) (work_at s.work v) command false t.0 tt (λ h. absurd (cc h)), refl);
         judged = unjudged a b s (after_it met) r v (ap (λ (m : Met). m.child) e);
+        stays = stays_beside s.store.held.collection s.store.held.slot.next_attempt (MayChange a.held) a b M.only other_attempt;
         only = for_more s.store.held.slot.next_attempt (MayChange a.held) (TouchedBy s.store.held a.held command) a b (λ file may. (refl, may)) M.only;
         files = M.files;
         said = M.only.said;
@@ -307,7 +319,7 @@ module _ (a b : Told) (s : Session) (store : Store) (r : Repository) (v : View) 
   -- ---- where the record lies
 
   abbrev At : Reply → Type 0
-  At reply = PlacedBy unasked s.store.held.slot s.store.held.unswept store.held.slot (state_in s r v) v command reply
+  At reply = PlacedBy unasked (image_records here.holds) s.store.held.slot s.store.held.unswept store.held.slot (state_in s r v) v command reply
 
   -- where the table ends
   abbrev ends_at : ℕ
@@ -337,7 +349,7 @@ module _ (a b : Told) (s : Session) (store : Store) (r : Repository) (v : View) 
   }
 
   stays_at : (reply : Reply) → ¬ IsDurable reply command → ¬ HasCollected reply command → ((l : Limit) → reply ≢ Reply.Limit l) → AttemptsLeft s.store.held.slot reply → store.held.slot ≡ s.store.held.slot → At reply
-  stays_at reply not over none left same = unmoved s.store.held.slot s.store.held.unswept store.held.slot (state_in s r v) v command reply unasked not over none (λ t is. left) same
+  stays_at reply not over none left same = unmoved (image_records here.holds) s.store.held.slot s.store.held.unswept store.held.slot (state_in s r v) v command reply unasked not over none (λ t is. left) same
 
   limited_at : (limit : Limit) → MayBeShort limit → LimitsStart ends_at (Err (CollectFault.Limit limit)) s.store.held → store.held.slot ≡ s.store.held.slot → At (Reply.Limit limit)
   limited_at limit may limits same = record {

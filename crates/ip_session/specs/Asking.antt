@@ -1,15 +1,16 @@
 -- What a command asks of the spawner.
 --     HasStarted result      the answer that a child was started
 --     GoesOnBy jobs before now      a collection that goes on is that of the child that was started, or the one that ran before
+--     looks      so many records a look looks at.      IsSlicedIn before now reply      behind one that is not through
 --     Asked s s' command result jobs ends before after      these jobs were started, and children reaped that ended so
 --     starts_in dir jobs      their starts, each in the folder of this name
 --     AskedIn s s' line result jobs ends before after      so by a line
 --     LetsGo before after      what is counted while one is let go
---     HandlesNone command      it has to do with no child.      MayReap command      it may reap one.      TellsNone reply, MeetsNone met      no child is told by the reply, and none was met
+--     HandlesNone command      it has to do with no child.      MayReap command      it may reap one.      TellsNone reply, MeetsNone met      no child is told by the reply, nor what came of one, and none was met
 --     HeardOf c kept reaped ends before after      how the child ended that was heard of: it was reaped now, or its exit was kept
---     QuietIfLong met old new reply      a long reply tells of no child, none was met, and no fault was counted before it
+--     QuietIfLong met old new reply      a long reply tells of no child and of no sweep, none was met, and no fault was counted before it
 --     Spawns tells dir old new s s' line result before after      some were, in this folder, and the spawner tells it
-use Rattle.std.specs.Prelude.{◌≡◌, ◌≢◌, ◌⊎◌, ◌≤◌, List, [], ◌∷◌, ◌++◌, map, Bool, false, Option, Some, None, IsSome, IfSome, IsSomeAnd, IsTrue, IfOk, Result, Ok}
+use Rattle.std.specs.Prelude.{◌≡◌, ◌≢◌, ◌⊎◌, ◌≤◌, ℕ, List, [], ◌∷◌, ◌++◌, map, Bool, false, Option, Some, None, IsSome, IfSome, IsSomeAnd, IsTrue, IfOk, Result, Ok}
 use Rattle.ip_ground.specs.Counts.{Noted, Rose}
 use Rattle.ip_base.specs.declared.exit.Reaped.{Reaped}
 use Rattle.ip_spawn.specs.Children.{Start, Told}
@@ -22,8 +23,11 @@ use Rattle.ip_spec.specs.declared.reply.Reply.{Reply}
 use Rattle.ip_spec.specs.Machine.{exit_kept}
 use Rattle.ip_spec.specs.Path.{Bytes}
 use Rattle.ip_spec.specs.Line.{IsLineOf}
+use Rattle.ip_spec.specs.Step.{IsSwept}
 use Rattle.ip_held.specs.declared.collection.Collection.{Collection}
 use Rattle.ip_held.specs.Collecting.{phase_of}
+use Rattle.ip_collects.specs.Concluding.{most_of}
+use Rattle.ip_collects.specs.Finishing.{IsSliced, looked_at}
 use Rattle.ip_collects.specs.Starting.{IsJobAt}
 use Rattle.ip_session.specs.declared.session.Session.{Session}
 use Rattle.ip_session.specs.declared.session.SessionEnd.{SessionEnd}
@@ -49,6 +53,10 @@ MayReap command = ⊥
 abbrev pub TellsNone : Reply → Type 0
 TellsNone (Reply.Started name) = ⊥
 TellsNone Reply.Cancelled = ⊥
+TellsNone (Reply.Checking left) = ⊥
+TellsNone (Reply.Collected floor left) = ⊥
+TellsNone (Reply.RejectedExit exit) = ⊥
+TellsNone (Reply.Rejected difference) = ⊥
 TellsNone reply = Unit {0}
 
 abbrev pub MeetsNone : Met → Type 0
@@ -56,15 +64,24 @@ MeetsNone met = (met.start_failed ≡ false) × (met.kill_failed ≡ false) × (
 
 -- so want of memory may be told in its place
 abbrev pub QuietIfLong : Met → Noted → Noted → Reply → Type 0
-QuietIfLong met old new reply = IsLong reply → (¬ HasStarted (Ok reply)) × (met.child ≡ Child.NotAsked) × (new ≡ old)
+QuietIfLong met old new reply = IsLong reply → (¬ HasStarted (Ok reply)) × (met.child ≡ Child.NotAsked) × (new ≡ old) × (¬ IsSwept reply)
 
 -- by a command that began while the collection ran
 abbrev pub HeardOf : Collection → Reaped → List Reaped → SpawnCounts → SpawnCounts → Type 0
 HeardOf c reaped ends before after = (reaped.attempt ≡ c.job.attempt) × (((c.exit ≡ None) × (ends ≡ reaped ∷ []) × Rose before.reaps after.reaps) ⊎ ((c.exit ≡ Some reaped) × (ends ≡ []) × (after ≡ before)))
 
--- with the same commit and the same job, and an exit that was kept is so still
+-- with the same commit and the same job, and an exit that was kept is so still; and no record that was looked at is to be looked at again
 abbrev pub GoesOnBy : List Job → Option Collection → Option Collection → Type 0
-GoesOnBy jobs before now = IfSome now (λ c. (jobs ≡ c.job ∷ []) ⊎ ((jobs ≡ []) × IsSomeAnd before (λ d. (c.commit ≡ d.commit) × (c.job ≡ d.job) × (c.exit ≡ None → d.exit ≡ None))))
+GoesOnBy jobs before now = IfSome now (λ c. (jobs ≡ c.job ∷ []) ⊎ ((jobs ≡ []) × IsSomeAnd before (λ d. (c.commit ≡ d.commit) × (c.job ≡ d.job) × (c.exit ≡ None → d.exit ≡ None) × (looked_at d ≤ looked_at c))))
+
+-- so many records a look looks at, at most
+abbrev pub looks : ℕ
+looks = most_of false
+
+-- The check is not through: it looked at so many records more, and so many bytes are left.
+abbrev pub IsSlicedIn : Option Collection → Option Collection → Reply → Type 0
+IsSlicedIn before now (Reply.Checking left) = IsSomeAnd before (λ c. IsSliced looks c left now)
+IsSlicedIn before now reply = Unit {0}
 
 -- A child is started by `collect` alone, where it says so. One is looked at by `look` alone, and waited for by `finish` alone; these two and `cancel` may reap it.
 pub record Asked (s s' : Session) (command : Command) (result : Result Reply SessionEnd) (jobs : List Job) (ends : List Reaped) (before after : SpawnCounts) : Type 0 where
@@ -72,11 +89,14 @@ pub record Asked (s s' : Session) (command : Command) (result : Result Reply Ses
   pub started : HasStarted result → IsSomeAnd s'.store.held.collection (λ c. (jobs ≡ c.job ∷ []) × (c.exit ≡ None) × IsJobAt s.store.held c.commit s'.store.held.slot c.job)
   pub none_started : ¬ HasStarted result → jobs ≡ []
   pub goes_on : IfOk result (λ reply. GoesOnBy jobs s.store.held.collection s'.store.held.collection)
+  pub sliced : IfOk result (IsSlicedIn s.store.held.collection s'.store.held.collection)
   -- it was seen to run where that is met, and else not
   pub running : s'.met.child ≡ Child.Running → Rose before.running after.running
   pub not_running : s'.met.child ≢ Child.Running → after.running ≡ before.running
   pub waits : before.waits ≤ after.waits
   pub no_wait : command ≢ Command.Finish → after.waits ≡ before.waits
+  -- one that a finish reaped was waited for
+  pub waited : command ≡ Command.Finish → ends ≢ [] → Rose before.waits after.waits
   pub reaps : before.reaps ≤ after.reaps
   pub none_reaped : ¬ MayReap command → (ends ≡ []) × (after.reaps ≡ before.reaps)
   -- what is met of it is what the spawner answered now, or what was kept
@@ -94,6 +114,7 @@ pub record AskedIn (s s' : Session) (line : Bytes) (result : Result Reply Sessio
   pub none : ((command : Command) → ¬ IsLineOf command line) → (jobs ≡ []) × (ends ≡ []) × (after ≡ before)
   -- whichever line it is
   pub goes_on : IfOk result (λ reply. GoesOnBy jobs s.store.held.collection s'.store.held.collection)
+  pub sliced : IfOk result (IsSlicedIn s.store.held.collection s'.store.held.collection)
 
 abbrev pub starts_in : Bytes → List Job → List Start
 starts_in dir jobs = map (λ job. record { dir = dir; job = job }) jobs

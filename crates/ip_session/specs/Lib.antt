@@ -4,3 +4,4 @@ pub mod Running
 pub mod Asking
 pub mod Starting
 pub mod Clearing
+pub mod Wanting

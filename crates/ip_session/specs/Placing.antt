@@ -2,11 +2,11 @@
 --     appended slot s command      the records that it appends where nothing refuses it, but for a commit's and a merge's.
 --     IsFirst r parents first      the view of the tree of a work's first parent, if there is one
 --     slot_behind command slot length commits      the slot behind them.      AttemptsLeft slot reply      there was an attempt left, or none
---     IsAppended rule slot s v command more commits      these are its records, and so many commits among them
+--     IsAppended rule records slot s v command more commits      these are its records, and so many commits among them, of a store with these records
 --     OfRecords Appended Says      of some that it appends this is so, by how many bytes and how many commits they are
 --     IsSwappedAt slot u commit slot'      the slot behind a swap to the pair of a collection at this commit.      HasCollected reply command      one was accepted
 --     Placed slot u slot' Appended command reply      the slot before and after a command with this reply, by which records it appends, of a store in which this was unswept
---     PlacedBy rule slot u slot' s v command reply, PlacedIn rule slot u slot' s v line reply      so of a command, and of a line
+--     PlacedBy rule records slot u slot' s v command reply, PlacedIn rule records slot u slot' s v line reply      so of a command, and of a line, of a store with these records
 use Rattle.std.specs.Prelude.{◌≡◌, ℕ, List, Option, None, IsSomeAnd, ◌+◌, ◌<◌, ◌≤◌, true, length, [], ◌∷◌, Result, Ok, Err}
 use Rattle.ip_base.specs.declared.limit.TheConstants.{OFFSET_MAX}
 use Rattle.ip_base.specs.declared.limit.Limit.{Limit}
@@ -57,12 +57,12 @@ IsFirst r [] first = first ≡ None
 IsFirst r (n ∷ parents) first = IsSomeAnd first (IsStored n (tree_at r n))
 
 -- Those of a commit are those of its tree that no record is known of, but for contents that the first parent's tree or an earlier path has, its own and its branch's.
--- Those of a merge depend on which parts the trees have in one record, by whatever records spell them.
-abbrev pub IsAppended : Rule → Slot → State → View → Command → Records → ℕ → Type 0
-IsAppended rule slot s v (Command.Merge target branch info) more commits = (number : ℕ) × (resolve s.repository target ≡ Ok number) × (records : ℕ → Option Record) × MergeAppends rule records s.repository number branch info slot.end more commits
-IsAppended rule slot s v (Command.Commit branch info) more commits =
+-- Those of a merge depend on which parts the trees have in one record of the store.
+abbrev pub IsAppended : Rule → (ℕ → Option Record) → Slot → State → View → Command → Records → ℕ → Type 0
+IsAppended rule records slot s v (Command.Merge target branch info) more commits = (number : ℕ) × (resolve s.repository target ≡ Ok number) × MergeAppends rule records s.repository number branch info slot.end more commits
+IsAppended rule records slot s v (Command.Commit branch info) more commits =
     (first : Option View) × IsFirst s.repository s.work.parents first × (more ≡ batch v (reusing_sources v first) (fields_of s.repository s.work.parents info branch) slot.end) × (commits ≡ 1)
-IsAppended rule slot s v command more commits = (more ≡ appended slot s command) × (commits ≡ 0)
+IsAppended rule records slot s v command more commits = (more ≡ appended slot s command) × (commits ≡ 0)
 
 -- where that many are drawn there is none left
 abbrev pub AttemptsLeft : Slot → Reply → Type 0
@@ -104,9 +104,9 @@ pub record Placed (slot : Slot) (u : Unswept) (slot' : Slot) (Appended : Records
   -- of a collection: it is begun, or one of the two limits is met, only where there is an attempt left, and else that limit is met
   pub attempt : (target : Target) → command ≡ Command.Collect target → AttemptsLeft slot reply
 
-abbrev pub PlacedBy : Rule → Slot → Unswept → Slot → State → View → Command → Reply → Type 0
-PlacedBy rule slot u slot' s v command reply = Placed slot u slot' (IsAppended rule slot s v command) command reply
+abbrev pub PlacedBy : Rule → (ℕ → Option Record) → Slot → Unswept → Slot → State → View → Command → Reply → Type 0
+PlacedBy rule records slot u slot' s v command reply = Placed slot u slot' (IsAppended rule records slot s v command) command reply
 
-pub record PlacedIn (rule : Rule) (slot : Slot) (u : Unswept) (slot' : Slot) (s : State) (v : View) (line : Bytes) (reply : Reply) : Type 0 where
-  pub command : (command : Command) → IsLineOf command line → PlacedBy rule slot u slot' s v command reply
+pub record PlacedIn (rule : Rule) (records : ℕ → Option Record) (slot : Slot) (u : Unswept) (slot' : Slot) (s : State) (v : View) (line : Bytes) (reply : Reply) : Type 0 where
+  pub command : (command : Command) → IsLineOf command line → PlacedBy rule records slot u slot' s v command reply
   pub none : ((command : Command) → ¬ IsLineOf command line) → slot' ≡ slot

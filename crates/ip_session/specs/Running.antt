@@ -16,12 +16,14 @@ use Rattle.ip_spec.specs.View.{View}
 use Rattle.ip_spec.specs.declared.command.Command.{Command}
 use Rattle.ip_spec.specs.declared.reply.Reply.{Reply}
 use Rattle.ip_held.specs.Collecting.{child_of}
+use Rattle.ip_held.specs.Held.{image_records}
 use Rattle.ip_session.specs.declared.session.Session.{Session}
 use Rattle.ip_session.specs.declared.session.SessionEnd.{SessionEnd}
 use Rattle.ip_session.specs.Asking.{Asked, QuietIfLong, starts_in}
 use Rattle.ip_session.specs.Clearing.{ClearBy, SweepsBehind}
 use Rattle.ip_session.specs.Placing.{PlacedBy}
 use Rattle.ip_session.specs.Session.{IsServing, IsWorking, state_in, CountsBy, CutBy, EndsBy, GoesBy, MetDamage, StillBy}
+use Rattle.ip_session.specs.Wanting.{Wants}
 
 -- this is known, and the session works over what the ground tells
 abbrev pub IsKnown : Type 0 → Told → Session → Type 0
@@ -33,7 +35,7 @@ pub record Runs (told known : Type 0) (rule : Rule) (old new : Told) (s s' : Ses
   -- the reply, the next state and the files are as the machine has them
   pub goes : known → (r : Repository) (v : View) → IsWorking old s r v → IfOk result (GoesBy rule old new s s' r v command)
   -- its records lie behind those that there were
-  pub placed : known → (r : Repository) (v : View) → IsWorking old s r v → IfOk result (PlacedBy rule s.store.held.slot s.store.held.unswept s'.store.held.slot (state_in s r v) v command)
+  pub placed : known → (r : Repository) (v : View) (here : IsWorking old s r v) → IfOk result (PlacedBy rule (image_records here.holds) s.store.held.slot s.store.held.unswept s'.store.held.slot (state_in s r v) v command)
   -- what was cleared away stays so, and behind a sweep that left nothing all that it was to remove is gone
   pub clear : told → (r : Repository) (v : View) → IsWorking old s r v → IfOk result (λ reply. ClearBy (SweepsBehind command reply) old new s s')
   -- a fault of the ground or of its files cut it short
@@ -49,4 +51,5 @@ pub record Ran (told known : Type 0) (rule : Rule) (old new : Told) (before afte
   pub child : held ≡ child_of s'.store.held.collection
   pub asked : (jobs : List Job) × (ends : List Reaped) × (IsTrue tells → now ≡ record { started = was.started ++ starts_in dir jobs; reaped = was.reaped ++ ends }) × Asked s s' command result jobs ends m n
   pub quiet : IfOk result (QuietIfLong s'.met before after)
+  pub memory : Wants s s' command result
   pub counts : CountsBy result command s'.met before after

@@ -16,12 +16,12 @@
 --     IsViewIn r v line reply view      the view of the work's tree after a line with this reply
 --     conditions_with met difference      what was met.      IsJudgedIn old new s s' r v difference      the difference is the settled pair's
 --     HasSettled c reply slot told      the attempt of a child that was heard of is settled.      IsSettledIn new s s' reply      so of one that was heard of now
---     NoneEnded session      no child was met that has ended.      KeepsSpaceIn old new s'      then the bytes of the live slot's records stay
+--     StaysSettled running old new      the attempt of the collection that runs stays settled.      NoneEnded session      no child was met that has ended.      KeepsSpaceIn old new s'      then the bytes of the live slot's records stay
 --     Goes old new s s' r v Only Gives Views reply      a command or a line was run, of which they say which files alone changed, what the machine gives, and the view after it
 --     Cut old new s s' r v Touches Gives      a fault of the ground or of its files cut it short
 --     GoesBy, CutBy rule .. command, GoesIn, CutIn rule .. line      so of a command, and of a line, by the rules of merges
 --     IsHeld tells told session      the ground tells what the store holds, and the session works over it
---     EndsBy held end      why a session has ended.      counted_end end      as what it is counted
+--     AreApart names      the two names of damage differ, where they are told.      EndsBy held end      why a session has ended.      counted_end end      as what it is counted
 --     fault_answer fault      what a call of the store is answered with that failed, or why the session ends.      Fails fault met met' result      and what is met by it
 --     IsAnswer replied made result      the reply that a call has, or why the session ends by it.      tree_fault fault      a call on a tree fails as one of the store
 --     IsLong reply      the text of such a reply may take memory.      Writes reply met met' text      it was written, or want of it
@@ -43,7 +43,7 @@ use Rattle.ip_spec.specs.declared.reply.Reply.{Reply}
 use Rattle.ip_spec.specs.Path.{Bytes, IsPath}
 use Rattle.ip_spec.specs.Machine.{State, Conditions}
 use Rattle.ip_spec.specs.Merge.{Rule}
-use Rattle.ip_spec.specs.Record.{IsBranchName, IsInfo}
+use Rattle.ip_spec.specs.Record.{Hash, IsBranchName, IsInfo}
 use Rattle.ip_spec.specs.Script.{LineStep}
 use Rattle.ip_spec.specs.Step.{Step}
 use Rattle.ip_spec.specs.Text.{reply_text}
@@ -241,6 +241,10 @@ NoneEnded s = (reaped : Reaped) → s.met.child ≢ Child.Ended reaped
 abbrev pub KeepsSpaceIn : Told → Told → Session → Type 0
 KeepsSpaceIn old new s' = NothingPending old → NoneEnded s' → (slot : Slot) → HasLive slot old.held → KeepsSpace slot old new
 
+-- an attempt that was settled is so still, by what its files held then
+abbrev pub StaysSettled : Option Collection → Told → Told → Type 0
+StaysSettled running old new = (c : Collection) → running ≡ Some c → (pair : Image) → IsSettledAs old c.job.attempt pair → IsSettledAs new c.job.attempt pair
+
 pub record Goes (old new : Told) (s s' : Session) (r : Repository) (v : View) (Only : Reply → Type 0) (Gives : Conditions → Reply → State → Type 0) (Views : Reply → View → Type 0) (reply : Reply) : Type 0 where
   pub after : Repository
   pub view : View
@@ -249,6 +253,7 @@ pub record Goes (old new : Told) (s s' : Session) (r : Repository) (v : View) (O
   pub gives : Gives (conditions_with s'.met difference) reply (state_in s' after view)
   pub judged : IsJudgedIn old new s s' r v difference
   pub settled : IsSettledIn new s s' reply
+  pub stays : StaysSettled s.store.held.collection old new
   pub is_at : IsWorking new s' after view
   pub seen : Views reply view
   pub only : Only reply
@@ -269,6 +274,7 @@ pub record Cut (old new : Told) (s s' : Session) (r : Repository) (v : View) (To
   pub difference : Option Difference
   pub gives : Gives (conditions_with s'.met difference) reply after
   pub judged : IsJudgedIn old new s s' r v difference
+  pub stays : StaysSettled s.store.held.collection old new
   pub only : Touches
   pub files : KeepsFiles old new
   pub said : KeepsSaid old new
@@ -290,10 +296,15 @@ CutIn rule old new s s' r v line = Cut old new s s' r v (TouchesIn s.store.held 
 abbrev pub IsHeld : Bool → Told → Session → Type 0
 IsHeld tells told s = IsTrue tells × ((r : Repository) × (v : View) × IsWorking told s r v)
 
--- A fault of the ground; or files that others changed, which never comes where the ground tells what the store holds.
+-- the wanted name is not the one that was found
+abbrev pub AreApart : Option (Hash × Hash) → Type 0
+AreApart None = Unit {0}
+AreApart (Some names) = names.0 ≢ names.1
+
+-- A fault of the ground; or files that others changed, which never comes where the ground tells what the store holds: where names are told, they differ.
 abbrev pub EndsBy : (held : Type 0) → SessionEnd → Type 0
 EndsBy held SessionEnd.Ground = Unit {0}
-EndsBy held (SessionEnd.Damaged at names) = ¬ held
+EndsBy held (SessionEnd.Damaged at names) = (¬ held) × AreApart names
 
 -- by a fault of a file, or by damage: each is counted, and nothing else is
 abbrev pub counted_end : SessionEnd → Counted

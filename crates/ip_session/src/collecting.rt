@@ -138,8 +138,6 @@ impl Session {
         ensures { (dir : Bytes) → Ran (IsTrue G.tells) (IsTrue G.tells) unasked (G.told ground.old) (G.told ground.new) (G.counts_of ground.old) (G.counts_of ground.new) P.tells (P.held spawner.new) dir (P.told spawner.old) (P.told spawner.new)
             (P.counts_of spawner.old) (P.counts_of spawner.new) self.old self.new Command.Look result }
     {
-        // It says that each count is one of 64 bits.
-        spawner.counts();
         let looked = self.store.look(self.alloc, ground, spawner);
         self.met = self.store.met();
         look_answer(looked)
@@ -157,8 +155,6 @@ impl Session {
         ensures { (dir : Bytes) → Ran (IsTrue G.tells) (IsTrue G.tells) unasked (G.told ground.old) (G.told ground.new) (G.counts_of ground.old) (G.counts_of ground.new) P.tells (P.held spawner.new) dir (P.told spawner.old) (P.told spawner.new)
             (P.counts_of spawner.old) (P.counts_of spawner.new) self.old self.new Command.Finish result }
     {
-        // It says that each count is one of 64 bits.
-        spawner.counts();
         let done = self.store.finish(self.alloc, ground, spawner);
         self.met = self.store.met();
         look_answer(done)
@@ -176,8 +172,6 @@ impl Session {
         ensures { (dir : Bytes) → Ran (IsTrue G.tells) (IsTrue G.tells) unasked (G.told ground.old) (G.told ground.new) (G.counts_of ground.old) (G.counts_of ground.new) P.tells (P.held spawner.new) dir (P.told spawner.old) (P.told spawner.new)
             (P.counts_of spawner.old) (P.counts_of spawner.new) self.old self.new Command.Cancel result }
     {
-        // It says that each count is one of 64 bits.
-        spawner.counts();
         let done = self.store.cancel(ground, spawner);
         self.met = self.store.met();
         cancel_answer(done)
@@ -192,8 +186,6 @@ impl Session {
         ensures told { (ends : List Reaped) × (length ends ≤ 1) × (IsTrue P.tells → P.told spawner.new ≡ record { started = (P.told spawner.old).started; reaped = (P.told spawner.old).reaped ++ ends }) }
         ensures counts { LetsGo (P.counts_of spawner.old) (P.counts_of spawner.new) }
     {
-        // It says that each count is one of 64 bits.
-        spawner.counts();
         if let Phase::Collecting { kept: false, .. } = self.store.phase() {
             let _ = spawner.kill();
         }

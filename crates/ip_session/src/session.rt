@@ -1,5 +1,6 @@
 // A session: one line, one reply.
-ghost use Rattle.std.specs.Prelude.{◌≡◌, ◌≤◌, [], false, ℕ, Option, IsTrue, IfOk, IfErr, OnOk, OnErr, None, Ok};
+ghost use Rattle.std.specs.Prelude.{◌≡◌, ◌<◌, ◌≤◌, [], false, ℕ, length, Option, IsTrue, IfOk, IfErr, OnOk, OnErr, None, Ok};
+ghost use Rattle.ip_base.specs.declared.limit.TheConstants.{PARENTS_MAX};
 ghost use Rattle.std.specs.Vec.{vec_capacity};
 ghost use Rattle.ip_ground.specs.Counts.{CountsIf};
 ghost use Rattle.ip_spec.specs.Map.{len};
@@ -15,13 +16,14 @@ ghost use Rattle.ip_spec.specs.Step.{resolve, least_with, phase_at};
 ghost use Rattle.ip_spec.specs.Text.{reply_text};
 ghost use Rattle.ip_held.specs.Collecting.{child_of, phase_of};
 ghost use Rattle.ip_held.specs.Answers.{met_nothing};
-ghost use Rattle.ip_held.specs.Held.{IsOf};
+ghost use Rattle.ip_held.specs.Held.{IsOf, image_records};
 ghost use Rattle.ip_held.specs.Work.{IsLawful, IsThere};
 ghost use Rattle.ip_merge.specs.Rules.{IsDecisive};
 ghost use Rattle.ip_session.specs.Clearing.{ClearIn};
 ghost use Rattle.ip_session.specs.Asking.{QuietIfLong, MeetsNone, Spawns, TellsNone};
 ghost use Rattle.ip_session.specs.Placing.{PlacedIn};
 ghost use Rattle.ip_session.specs.Running.{Ran};
+ghost use Rattle.ip_session.specs.Wanting.{Wants, WantsIn};
 ghost use Rattle.ip_session.specs.declared.session.TheConstants.{REPLY_ROOM};
 ghost use Rattle.ip_session.specs.Session.{counted_end, met_only, CountsIn, IsHeld, EndsBy, MetDamage, StillIn};
 
@@ -125,6 +127,7 @@ impl Session {
         ensures meets_none { MeetsNone self.new.met }
         ensures tells_none { TellsNone result }
         ensures same_store { self.new.store.held ≡ self.old.store.held }
+        ensures wanted { result ≡ Reply.Memory → length self.old.work.parents < PARENTS_MAX }
         ensures answered { (records : ℕ → Option Record) (r : Repository) (v : View) → IsOf self.old.store.held r → IsLawful records r self.old.work v → IsThere r self.old.work.least → IsTrue (is_retained r number) →
             (target : Target) → resolve r target ≡ Ok number → IsAnswered records self.old self.new r v (Command.Parent target) result }
     {
@@ -152,6 +155,7 @@ impl Session {
         ensures same_store { self.new.store.held ≡ self.old.store.held }
         ensures answered { (records : ℕ → Option Record) (r : Repository) (v : View) → IsOf self.old.store.held r → IsLawful records r self.old.work v →
             IsAnswered records self.old self.new r v (Command.Parent target) result }
+        ensures memory { Wants self.old self.new (Command.Parent target) (Ok result) }
     {
         if let Some(number) = self.store.given_up(self.work.least) {
             return Reply::GivenUp(number);
@@ -189,6 +193,7 @@ impl Session {
         ensures same_store { self.new.store.held ≡ self.old.store.held }
         ensures answered { (records : ℕ → Option Record) (r : Repository) (v : View) → IsOf self.old.store.held r → IsLawful records r self.old.work v →
             IsAnswered records self.old self.new r v (Command.Log target) result }
+        ensures memory { Wants self.old self.new (Command.Log target) (Ok result) }
     {
         let number = match resolve(&self.store, target) {
             Ok(number) => number,
@@ -210,6 +215,7 @@ impl Session {
         ensures same_store { self.new.store.held ≡ self.old.store.held }
         ensures answered { (records : ℕ → Option Record) (r : Repository) (v : View) → IsOf self.old.store.held r → IsLawful records r self.old.work v →
             IsAnswered records self.old self.new r v (Command.Lcas one other) result }
+        ensures memory { Wants self.old self.new (Command.Lcas one other) (Ok result) }
     {
         let one = match resolve(&self.store, one) {
             Ok(number) => number,
@@ -311,13 +317,15 @@ impl Session {
         ensures tables { IfOk result (λ reply. IsServing self.new) }
         ensures goes { IsTrue G.tells → IsDecisive (D.rule rules.now) → (r : Repository) (v : View) → IsWorking (G.told ground.old) self.old r v →
             IfOk result (GoesIn (D.rule rules.now) (G.told ground.old) (G.told ground.new) self.old self.new r v line.now) }
-        ensures placed { IsTrue G.tells → IsDecisive (D.rule rules.now) → (r : Repository) (v : View) → IsWorking (G.told ground.old) self.old r v →
-            IfOk result (PlacedIn (D.rule rules.now) self.old.store.held.slot self.old.store.held.unswept self.new.store.held.slot (state_in self.old r v) v line.now) }
+        ensures placed { IsTrue G.tells → IsDecisive (D.rule rules.now) → (r : Repository) (v : View) (here : IsWorking (G.told ground.old) self.old r v) →
+            IfOk result (PlacedIn (D.rule rules.now) (image_records here.holds) self.old.store.held.slot self.old.store.held.unswept self.new.store.held.slot (state_in self.old r v) v line.now) }
         ensures clear { IsTrue G.tells → (r : Repository) (v : View) → IsWorking (G.told ground.old) self.old r v →
             IfOk result (ClearIn (G.told ground.old) (G.told ground.new) self.old self.new line.now) }
         ensures cut { IsTrue G.tells → IsDecisive (D.rule rules.now) → (r : Repository) (v : View) → IsWorking (G.told ground.old) self.old r v →
             OnErr result (CutIn (D.rule rules.now) (G.told ground.old) (G.told ground.new) self.old self.new r v line.now) }
         ensures quiet { IfOk result (QuietIfLong self.new.met (G.counts_of ground.old) (G.counts_of ground.new)) }
+        // Behind a line that takes none memory is wanted only where the command asks for some.
+        ensures memory { WantsIn self.old self.new line.now result }
         ensures counts { CountsIn line.now result self.new.met (G.counts_of ground.old) (G.counts_of ground.new) }
         ensures cause { IsDecisive (D.rule rules.now) → IfErr result (EndsBy (IsHeld G.tells (G.told ground.old) self.old)) }
         // Behind damage no file has changed: at most a child that was heard of is settled.
@@ -353,9 +361,9 @@ impl Session {
         ensures tables { OnOk result (IsServing self.new) }
         ensures goes { OnOk result ((reply : Reply) × (text.new.items ≡ reply_text reply)
             × Spawns P.tells dir.now (P.told spawner.old) (P.told spawner.new) self.old self.new line.now (Ok reply) (P.counts_of spawner.old) (P.counts_of spawner.new)
-            × CountsIn line.now (Ok reply) self.new.met (G.counts_of ground.old) (G.counts_of ground.new) × (IsTrue G.tells → IsDecisive (D.rule rules.now) → (r : Repository) (v : View) → IsWorking (G.told ground.old) self.old r v →
+            × CountsIn line.now (Ok reply) self.new.met (G.counts_of ground.old) (G.counts_of ground.new) × (IsTrue G.tells → IsDecisive (D.rule rules.now) → (r : Repository) (v : View) (here : IsWorking (G.told ground.old) self.old r v) →
             GoesIn (D.rule rules.now) (G.told ground.old) (G.told ground.new) self.old self.new r v line.now reply
-            × PlacedIn (D.rule rules.now) self.old.store.held.slot self.old.store.held.unswept self.new.store.held.slot (state_in self.old r v) v line.now reply)
+            × PlacedIn (D.rule rules.now) (image_records here.holds) self.old.store.held.slot self.old.store.held.unswept self.new.store.held.slot (state_in self.old r v) v line.now reply)
             × (IsTrue G.tells → (r : Repository) (v : View) → IsWorking (G.told ground.old) self.old r v → ClearIn (G.told ground.old) (G.told ground.new) self.old self.new line.now reply)) }
         ensures cut { IsTrue G.tells → IsDecisive (D.rule rules.now) → (r : Repository) (v : View) → IsWorking (G.told ground.old) self.old r v →
             OnErr result (CutIn (D.rule rules.now) (G.told ground.old) (G.told ground.new) self.old self.new r v line.now) }

@@ -5,6 +5,7 @@ ghost use Rattle.ip_spec.specs.declared.command.Command.TheVariants as Command;
 ghost use Rattle.ip_spec.specs.Path.{IsPath};
 ghost use Rattle.ip_session.specs.Asking.{MeetsNone, TellsNone};
 ghost use Rattle.ip_session.specs.Session.{counted_end, met_only, HasRead, IsHeld, EndsBy};
+ghost use Rattle.ip_session.specs.Wanting.{Wants};
 
 use crate::replies::{failed, got_reply, listed_reply, refuse, shown_reply, tree_fault};
 use crate::session::{Session, SessionEnd, least_with, resolve};
@@ -25,6 +26,7 @@ impl Session {
         requires met { self.old.met ≡ met_only false }
         requires tables { IsServing self.old }
         ensures reads { HasRead G.tells (G.told ground.old) (G.told ground.new) self.old self.new (Command.Checkout target) result }
+        ensures memory { Wants self.old self.new (Command.Checkout target) result }
         ensures same_collection { self.new.store.held.collection ≡ self.old.store.held.collection }
         ensures meets_none { MeetsNone self.new.met }
         ensures tells_none { IfOk result TellsNone }
@@ -234,6 +236,7 @@ impl Session {
         requires met { self.old.met ≡ met_only false }
         requires tables { IsServing self.old }
         ensures reads { HasRead G.tells (G.told ground.old) (G.told ground.new) self.old self.new (Command.Show target) result }
+        ensures memory { Wants self.old self.new (Command.Show target) result }
         ensures same_collection { self.new.store.held.collection ≡ self.old.store.held.collection }
         ensures meets_none { MeetsNone self.new.met }
         ensures tells_none { IfOk result TellsNone }

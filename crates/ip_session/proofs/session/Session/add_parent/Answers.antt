@@ -46,3 +46,17 @@ returns-clause-tables c r is retained =
     let new : list_any (λ p. p == c.args.number) s.work.parents ≡ false = search rules in
     let added : c.push.new.self ≡ s.work.parents ++ c.args.number ∷ [] = search rules in
     (is.0, subst (AreParents r (Some c.least_with.result)) (sym added) (more_parents r s.work.least c.least_with.result c.args.number s.work.parents c.least_with.ensures is.1 retained new (omega (arith, ap length c.as_slice-parents.ensures))))
+
+-- ---- memory was wanted
+
+pub returns-then-contains-clause-wanted : goal.returns-then-contains-clause-wanted
+returns-then-contains-clause-wanted c e = absurd (cc e)
+
+pub returns-then-parents-ge-PARENTS_MAX-clause-wanted : goal.returns-then-parents-ge-PARENTS_MAX-clause-wanted
+returns-then-parents-ge-PARENTS_MAX-clause-wanted c e = absurd (cc e)
+
+pub returns-then-is_err-clause-wanted : goal.returns-then-is_err-clause-wanted
+returns-then-is_err-clause-wanted c e = omega (arith, ap length c.as_slice-parents.ensures)
+
+pub returns-clause-wanted : goal.returns-clause-wanted
+returns-clause-wanted c e = absurd (cc e)

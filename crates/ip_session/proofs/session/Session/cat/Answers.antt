@@ -7,6 +7,7 @@ use Rattle.ip_held.specs.Work.{work_at}
 use Rattle.ip_session.specs.Session.{state_in, tree_fault}
 use Rattle.ip_session.proofs.SessionLemmas.{cat_refused}
 use Rattle.ip_session.proofs.Referring.{cat_unnamed}
+use Rattle.ip_session.proofs.Damage.{tree_apart}
 use Rattle.ip_session.proofs.Reading.{read_as, unread, same_read, failed_read, fails_as, free_refuses, ends, looks_on, same_on, got_behind, cat_gives, unfetched_read, unfetched_ends}
 use Rattle.ip_session.proofs.session.Session.cat.Goals as goal
 
@@ -29,7 +30,7 @@ returns-in-Err-tree_of-clause-reads g c =
 
 pub returns-in-Err-tree_of-clause-cause : goal.returns-in-Err-tree_of-clause-cause
 returns-in-Err-tree_of-clause-cause g c =
-    unfetched_ends c.args.self.now _ c.in-Ok.number _ (Command.Cat c.args.target c.args.path) c.failed.new.met c.in-Err-tree_of.fault c.failed.result c.in-Ok.ensures.retained c.failed.ensures.value
+    unfetched_ends c.args.self.now _ c.in-Ok.number _ (Command.Cat c.args.target c.args.path) c.failed.new.met c.in-Err-tree_of.fault c.failed.result c.in-Ok.ensures.retained c.failed.ensures.value c.in-Err-tree_of.ensures.causes
     c.in-Err-tree_of.ensures.tree
 
 pub returns-in-Ok-get-clause-reads : goal.returns-in-Ok-get-clause-reads
@@ -76,7 +77,7 @@ returns-clause-cause g c =
     let command = Command.Cat c.args.target path in
     let fault = c.in-Err-get.fault in
     let failed = c.failed-in-Err-get in
-    ends (tree_fault fault) command s.met failed.new.met failed.result _ (fails_as fault c.tree_fault.result s.met failed.new.met failed.result c.tree_fault.ensures failed.ensures.value)
+    ends (tree_fault fault) command s.met failed.new.met failed.result _ (fails_as fault c.tree_fault.result s.met failed.new.met failed.result c.tree_fault.ensures failed.ensures.value) (tree_apart fault c.in-Err-get.ensures.causes.blamed)
     (λ (told, (r, v, here)).
     let holds = here.holds in
     let read = c.in-Ok-tree_of.ensures.tree told r holds (c.in-Ok.ensures.retained r holds.tables) in (

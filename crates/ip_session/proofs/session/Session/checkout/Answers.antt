@@ -1,4 +1,5 @@
-use Rattle.std.proofs.Common.{rules, ◌≡◌, [], ◌∷◌, sym}
+use Rattle.std.proofs.Common.{rules, ◌≡◌, [], ◌∷◌, sym, ap}
+use Rattle.std.specs.Prelude.{is_ok}
 use Rattle.ip_spec.specs.declared.command.Command.TheVariants as Command
 use Rattle.ip_held.specs.Collecting.{phase_of}
 use Rattle.ip_held.specs.Work.{work_at}
@@ -7,6 +8,7 @@ use Rattle.ip_session.proofs.SessionLemmas.{checkout_refused}
 use Rattle.ip_session.proofs.Referring.{checkout_unnamed}
 use Rattle.ip_session.proofs.Seeing.{unnamed_seen}
 use Rattle.ip_session.proofs.Reading.{unread, refused_unread, checkout_read, unfetched_read, unfetched_ends}
+use Rattle.ip_session.proofs.Wanted.{unnamed_memory}
 use Rattle.ip_session.proofs.session.Session.checkout.Goals as goal
 
 pub returns-in-Err-clause-reads : goal.returns-in-Err-clause-reads
@@ -32,7 +34,7 @@ returns-in-Err-tree_of-clause-reads g c =
 
 pub returns-in-Err-tree_of-clause-cause : goal.returns-in-Err-tree_of-clause-cause
 returns-in-Err-tree_of-clause-cause g c =
-    unfetched_ends c.args.self.now _ c.in-Ok.number _ (Command.Checkout c.args.target) c.failed.new.met c.in-Err-tree_of.fault c.failed.result c.in-Ok.ensures.retained c.failed.ensures.value
+    unfetched_ends c.args.self.now _ c.in-Ok.number _ (Command.Checkout c.args.target) c.failed.new.met c.in-Err-tree_of.fault c.failed.result c.in-Ok.ensures.retained c.failed.ensures.value c.in-Err-tree_of.ensures.causes
     c.in-Err-tree_of.ensures.tree
 
 pub retained_name-requires : goal.retained_name-requires
@@ -47,3 +49,17 @@ returns-clause-reads g c =
     let one : c.push.new.self ≡ c.in-Ok.number ∷ [] = search rules in
     checkout_read _ _ _ s c.tree_of.new.self c.tree_of.ensures.same c.tree_of.ensures.looks c.requires.met c.args.target c.in-Ok.number c.in-Ok.ensures.number c.in-Ok.ensures.retained
     c.in-Ok-tree_of.tree c.push.new.self c.retained_name.result one c.retained_name.ensures c.in-Ok-tree_of.ensures.tree
+
+-- ---- memory was wanted
+
+pub returns-in-Err-clause-memory : goal.returns-in-Err-clause-memory
+returns-in-Err-clause-memory g c r is e = absurd (unnamed_memory r c.args.target c.in-Err.reply (c.in-Err.ensures.number r is.0) e)
+
+pub returns-then-is_err-clause-memory : goal.returns-then-is_err-clause-memory
+returns-then-is_err-clause-memory g c r is e = ap is_ok (sym (c.in-Ok.ensures.number r is.0))
+
+pub returns-in-Err-tree_of-clause-memory : goal.returns-in-Err-tree_of-clause-memory
+returns-in-Err-tree_of-clause-memory g c r is e = ap is_ok (sym (c.in-Ok.ensures.number r is.0))
+
+pub returns-clause-memory : goal.returns-clause-memory
+returns-clause-memory g c r is e = ap is_ok (sym (c.in-Ok.ensures.number r is.0))

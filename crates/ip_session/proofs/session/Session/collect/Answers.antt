@@ -1,5 +1,5 @@
 use Rattle.std.proofs.Common.{◌≡◌, ◌≤◌, length, false, refl, sym, ap, subst, ◌∙◌, Ok, IsTrue}
-use Rattle.std.specs.Prelude.{IfOk}
+use Rattle.std.specs.Prelude.{IfOk, is_ok}
 use Rattle.ip_spec.specs.declared.command.Command.TheVariants as Command
 use Rattle.ip_spec.specs.declared.met.Met.{Met}
 use Rattle.ip_spec.specs.declared.reply.Reply.{Reply}
@@ -8,14 +8,15 @@ use Rattle.ip_spec.specs.Repository.{Repository}
 use Rattle.ip_spec.specs.Step.{resolve}
 use Rattle.ip_held.specs.declared.held.Held.{Held}
 use Rattle.ip_collects.specs.Starting.{AnswersStart, Replies, met_by_start}
-use Rattle.ip_held.specs.Held.{IsOf}
+use Rattle.ip_held.specs.Held.{IsOf, image_records}
 use Rattle.ip_session.specs.Running.{IsKnown}
 use Rattle.ip_session.specs.Session.{unasked, state_in, GoesBy}
 use Rattle.ip_session.specs.Starting.{StartReplies}
 use Rattle.ip_session.proofs.Asking.{none_met, plain_asked, plain_quiet, start_asked, start_counts, start_quiet, start_ends, start_sound}
 use Rattle.ip_session.proofs.ClearGoes.{keeps_by, start_clear}
 use Rattle.ip_session.proofs.NameSizes.{names_size}
-use Rattle.ip_session.proofs.StartGoes.{runs_none, runs_at, retained_at, busy_goes, busy_placed, unnamed_start, unnamed_start_placed, start_goes, start_cut, start_placed, start_serves, found_of, says_as}
+use Rattle.ip_session.proofs.Wanted.{unnamed_memory}
+use Rattle.ip_session.proofs.StartGoes.{idle_by, runs_none, runs_at, retained_at, busy_goes, busy_placed, unnamed_start, unnamed_start_placed, start_goes, start_cut, start_placed, start_serves, found_of, says_as}
 use Rattle.ip_session.proofs.session.Session.collect.Goals as goal
 
 -- ---- one runs
@@ -37,8 +38,8 @@ returns-in-Collecting g c =
         goes = λ tells r v here. subst (λ (h : Hash). GoesBy unasked (g.G.Ground.told c.args.ground.now) (g.G.Ground.told c.args.ground.now) s s r v (Command.Collect c.args.target) (Reply.Busy h))
             (sym (c.retained_name.ensures r here.holds.tables (retained_at s.store.held.slot r s.store.held.collection c.in-Collecting.commit _ here.holds.tables.phase told)))
             (busy_goes _ s r v here c.args.target c.in-Collecting.commit c.requires.met (runs_at s.store.held.collection c.in-Collecting.commit _ told));
-        placed = λ tells r v here. busy_placed _ _ (state_in s r v) v c.args.target c.retained_name.result;
-        clear = λ tells r v here. keeps_by _ _ s s (Command.Collect c.args.target) busy (λ may. may) (λ clear. clear);
+        placed = λ tells r v here. busy_placed (image_records here.holds) _ _ (state_in s r v) v c.args.target c.retained_name.result;
+        clear = λ tells r v here. keeps_by _ _ s s (Command.Collect c.args.target) busy (λ may. may) (λ clear. clear) refl;
         cut = λ tells r v here. tt;
         cause = tt;
         untouched = λ told met. absurd met;
@@ -46,6 +47,7 @@ returns-in-Collecting g c =
       child = c.requires.child;
       asked = plain_asked _ _ _ s s (Command.Collect c.args.target) (Ok busy) _ tt unmet refl;
       quiet = plain_quiet (Ok busy) s.met _ _ tt unmet refl;
+      memory = λ r is e. absurd (cc e);
       counts = refl;
     }
 
@@ -59,8 +61,8 @@ returns-in-Err g c =
       runs = record {
         serving = c.requires.tables;
         goes = λ tells r v here. unnamed_start _ s r v here c.args.target c.in-Err.reply c.requires.met (runs_none s.store.held.collection (λ n k is. c.in_default.not-Collecting n k (c.phase.ensures ∙ is))) (sym (c.in-Err.ensures.number r here.holds.tables));
-        placed = λ tells r v here. unnamed_start_placed _ _ (state_in s r v) v c.args.target c.in-Err.reply (sym (c.in-Err.ensures.number r here.holds.tables));
-        clear = λ tells r v here. keeps_by _ _ s s (Command.Collect c.args.target) c.in-Err.reply (λ may. may) (λ clear. clear);
+        placed = λ tells r v here. unnamed_start_placed (image_records here.holds) _ _ (state_in s r v) v c.args.target c.in-Err.reply (sym (c.in-Err.ensures.number r here.holds.tables));
+        clear = λ tells r v here. keeps_by _ _ s s (Command.Collect c.args.target) c.in-Err.reply (λ may. may) (λ clear. clear) refl;
         cut = λ tells r v here. tt;
         cause = tt;
         untouched = λ told met. absurd met;
@@ -68,6 +70,7 @@ returns-in-Err g c =
       child = c.requires.child;
       asked = plain_asked _ _ _ s s (Command.Collect c.args.target) (Ok c.in-Err.reply) _ c.in-Err.ensures.tells_none unmet refl;
       quiet = plain_quiet (Ok c.in-Err.reply) s.met _ _ c.in-Err.ensures.tells_none unmet refl;
+      memory = λ r is e. absurd (unnamed_memory r c.args.target c.in-Err.reply (c.in-Err.ensures.number r is.0) e);
       counts = refl;
     }
 
@@ -112,7 +115,7 @@ returns g c =
             let of = here.holds.tables in
             start_placed _ _ s store r v here target n (named r of) begun met result (says r of) (answered r of) call.ensures.met (B.limits r of)
             (λ begun. B.begins tells begun r of) (λ down. let same : store.held.slot ≡ s.store.held.slot = ap (λ (x : Held). x.slot) (B.turned_down down) in same);
-        clear = λ tells r v here. start_clear _ _ s store met r target store.met begun result (says r here.holds.tables) (λ answers. B.clear tells answers r here.holds);
+        clear = λ tells r v here. start_clear _ _ s store met r target store.met begun result (says r here.holds.tables) (λ answers. B.clear tells answers r here.holds) B.unswept;
         cut = λ tells r v here. let of = here.holds.tables in start_cut _ _ s store r v here target n (named r of) begun met result (says r of) (answered r of) call.ensures.met (B.any_moment tells r here.holds);
         cause = start_ends r _ met result (IsKnown (IsTrue g.G.Ground.tells) (g.G.Ground.told c.args.ground.now) s) begun (says r is.0);
         untouched = λ told damaged. absurd (start_sound r _ met result begun (says r is.0) damaged);
@@ -122,4 +125,5 @@ returns g c =
           (λ none. let same = call.ensures.unasked none in (ap g.P.Spawner.told same, ap g.P.Spawner.counts_of same)) B.same_collection call.ensures.asked;
       quiet = start_quiet r _ met result target _ _ begun (says r is.0) call.ensures.met (size r is.0) counts;
       counts = counts;
+      memory = λ q own e. (idle_by s.store.held.collection (λ n k told. c.in_default.not-Collecting n k (c.phase.ensures ∙ told)), ap is_ok (named q own.0));
     }

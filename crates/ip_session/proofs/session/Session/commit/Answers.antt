@@ -9,12 +9,14 @@ use Rattle.ip_spec.specs.Path.{Bytes}
 use Rattle.ip_held.specs.Answers.{reply_to, Answers}
 use Rattle.ip_held.specs.Collecting.{phase_of}
 use Rattle.ip_held.specs.Work.{IsAt, session}
+use Rattle.ip_held.proofs.Untouched.{damage_refused}
 use Rattle.ip_session.specs.Asking.{MeetsNone}
 use Rattle.ip_session.specs.Running.{IsKnown, Runs}
 use Rattle.ip_session.specs.Session.{unasked}
 use Rattle.ip_session.proofs.Asking.{faulted}
 use Rattle.ip_session.proofs.ClearGoes.{keeps_by}
 use Rattle.ip_session.proofs.Committing.{commit_goes, commit_cut, has_answer}
+use Rattle.ip_session.proofs.Damage.{causes_apart}
 use Rattle.ip_session.proofs.DurableGoes.{by_answer, damage_of, fault_ends, fault_met, answer_counts}
 use Rattle.ip_session.proofs.Placing.{commit_placed}
 use Rattle.ip_session.proofs.Running.{runs_as, runs_ended}
@@ -40,12 +42,12 @@ returns-clause-runs g c =
       serving = let (r, of) = c.requires.tables in let on = commits.tables r of.0 of.1 (has_answer made reply is) in (on.repository, (on.tables, on.parents));
       goes = λ told r v here. commit_goes a b s call.new.self call.new.work _ r v here name info made commits.same_collection (commits.took told r v here).changes reply c.met-self.ensures is (answered told r v here);
       placed = λ told r v here. commit_placed a b s call.new.self r v here name info call.new.work made reply is (answered told r v here) (commits.took told r v here).changes (commits.limits told r v here) (commits.appends told r v here);
-      clear = λ told r v here. keeps_by a b s after (Command.Commit name info) reply (λ may. may) (commits.clear told (has_answer made reply is) r here.holds);
+      clear = λ told r v here. keeps_by a b s after (Command.Commit name info) reply (λ may. may) (commits.clear told (has_answer made reply is) r here.holds) commits.unswept;
       cut = λ told r v here. tt;
       cause = tt;
       untouched = λ told met. absurd met;
     })
-    (λ end is. runs_ended (IsTrue g.G.Ground.tells) (IsTrue g.G.Ground.tells) unasked a b s after (Command.Commit name info) end (fault_ends made end (IsKnown (IsTrue g.G.Ground.tells) a s) is (λ (told, (r, v, here)). commits.undamaged told r v here)) (λ told met. commits.untouched told (damage_of made end is met))
+    (λ end is. runs_ended (IsTrue g.G.Ground.tells) (IsTrue g.G.Ground.tells) unasked a b s after (Command.Commit name info) end (fault_ends made end (IsKnown (IsTrue g.G.Ground.tells) a s) is (causes_apart g.G.Ground.tells a s.store.held.space made commits.causes) (λ (told, (r, v, here)). commits.undamaged told r v here)) (λ told met. let refused = damage_refused made (damage_of made end is met) in commits.untouched told refused.0 refused.1)
     (λ told r v here. commit_cut a b s call.new.self call.new.work _ r v here name info made commits.same_collection (commits.took told r v here).changes (c.met-self.ensures ∙ call.ensures.met ∙ fault_met made end is))))
 
 pub returns-clause-counts : goal.returns-clause-counts

@@ -1,9 +1,9 @@
-use Rattle.std.proofs.Common.{◌-◌, ◌^◌, ◌≤◌, Bool, true, false, inr, refl, sym, ap, subst, rules}
+use Rattle.std.proofs.Common.{Bool, true, false, inr, refl, sym, ap, subst}
 use Rattle.std.specs.Prelude.{is_err}
 use Rattle.ip_spawn.specs.Children.{end_reaped}
 use Rattle.ip_spawn.specs.Counts as spawned
-use Rattle.ip_spawn.specs.declared.spawner.SpawnCounts.{SpawnCounts}
 use Rattle.ip_spec.specs.declared.command.Command.TheVariants as Command
+use Rattle.ip_collects.specs.Finishing.{IsChecking}
 use Rattle.ip_spec.specs.declared.met.Child.{Child}
 use Rattle.ip_session.proofs.FinishAsked.{Sees, reaped_so, reaps_so, finish_asked, finish_ran}
 use Rattle.ip_session.proofs.FinishGoes.{Says}
@@ -18,21 +18,19 @@ returns g c dir =
     let C = call.ensures.concludes in
     let met = c.met-self.result in
     let (r, is) = c.requires.tables in
-    let says : Says s store Command.Finish looked = record { most = _; goes = C.goes; kept = λ x reaped runs exit. (call.ensures.kept x reaped runs exit).1; answered = C.answered } in
-    let reaps : c.counts.result.reaps ≤ 2 ^ 64 - 1 = search rules in
-    let waits : c.counts.result.waits ≤ 2 ^ 64 - 1 = search rules in
+    let says : Says s store Command.Finish looked = record { most = _; goes = C.goes; kept = λ x reaped runs exit. (call.ensures.kept x reaped runs exit).1; answered = C.answered; slices = λ left is. absurd (C.asked.1 (subst IsChecking (sym is) tt)) } in
     finish_ran g.G.Ground.tells _ _ _ _ g.P.Spawner.tells _ dir _ _ _ _ s store met Command.Finish tt looked c.met-self.ensures says c.look_answer.result c.look_answer.ensures.answer c.look_answer.ensures.short c.requires.tables
     (λ tells r held. record { any_moment = λ x reaped runs heard. C.any_moment tells r held x reaped runs heard; undamaged = C.undamaged tells r held; works_stay = λ has q now. C.works_stay tells has r q held now; clear = λ has. C.clear tells has r held })
     (λ tells. C.untouched tells) (λ quiet. ap g.G.Ground.told (call.ensures.quiet quiet)) call.ensures.counts call.ensures.child
     (finish_asked g.P.Spawner.tells dir _ _ s store met Command.Finish tt looked c.met-self.ensures says _ _ r is.0
     (λ idle. let same = call.ensures.idle idle in (ap g.P.Spawner.told same, ap g.P.Spawner.counts_of same)) (λ x reaped runs exit. let same = (call.ensures.kept x reaped runs exit).0 in (ap g.P.Spawner.told same, ap g.P.Spawner.counts_of same))
-    (subst (λ (k : SpawnCounts). k.reaps ≤ 2 ^ 64 - 1) c.counts.ensures reaps) (subst (λ (k : SpawnCounts). k.waits ≤ 2 ^ 64 - 1) c.counts.ensures waits)
     (λ x runs exit. let (answer, child, attempt, told, counts) = call.ensures.asked x runs exit in record {
       end = end_reaped answer;
       ran = false;
       waited = true;
       failed = is_err answer;
       sees = subst (λ (k : Child). Sees k (end_reaped answer) false (is_err answer)) (sym child) (reaped_so answer);
+      awaits = λ _. refl;
       waits = inr refl;
       attempt = attempt;
       told = told;

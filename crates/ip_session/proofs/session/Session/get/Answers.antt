@@ -4,6 +4,7 @@ use Rattle.ip_held.specs.Collecting.{phase_of}
 use Rattle.ip_held.specs.Work.{work_at}
 use Rattle.ip_session.specs.Session.{state_in, tree_fault}
 use Rattle.ip_session.proofs.SessionLemmas.{get_refused}
+use Rattle.ip_session.proofs.Damage.{tree_apart}
 use Rattle.ip_session.proofs.Reading.{given_read, not_given, read_as, same_read, failed_read, fails_as, free_refuses, ends, got_gives}
 use Rattle.ip_session.proofs.session.Session.get.Goals as goal
 
@@ -39,5 +40,5 @@ returns-clause-cause g c =
     let there = not_given s c.given_up.result (search rules) c.given_up.ensures in
     let path = c.steps.result.now in
     ends (tree_fault c.in-Err.fault) (Command.Get path) s.met c.failed.new.met c.failed.result _
-    (fails_as c.in-Err.fault c.tree_fault.result s.met c.failed.new.met c.failed.result c.tree_fault.ensures c.failed.ensures.value)
+    (fails_as c.in-Err.fault c.tree_fault.result s.met c.failed.new.met c.failed.result c.tree_fault.ensures c.failed.ensures.value) (tree_apart c.in-Err.fault c.in-Err.ensures.causes.blamed)
     (λ (told, (r, v, here)). (state_in s r v, free_refuses (state_in s r v) (Command.Get path) c.in-Err.fault (c.in-Err.ensures.got told r v here.holds (here.lawful.tree (there r here.holds.tables)))))

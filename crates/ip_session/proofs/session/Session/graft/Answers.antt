@@ -10,6 +10,7 @@ use Rattle.ip_session.specs.Session.{state_in, tree_fault}
 use Rattle.ip_session.proofs.SessionLemmas.{graft_refused}
 use Rattle.ip_session.proofs.Referring.{graft_unnamed}
 use Rattle.ip_session.proofs.Seeing.{unnamed_seen}
+use Rattle.ip_session.proofs.Damage.{tree_apart}
 use Rattle.ip_session.proofs.Reading.{given_read, not_given, read_as, unread, same_read, failed_read, fails_as, graft_refuses, ends, looks_on, same_on, grafts_behind, graft_read, ungrafted_gives, unfetched_read, unfetched_ends}
 use Rattle.ip_session.proofs.session.Session.graft.Goals as goal
 
@@ -41,7 +42,7 @@ returns-in-Err-tree_of-clause-reads g c =
 
 pub returns-in-Err-tree_of-clause-cause : goal.returns-in-Err-tree_of-clause-cause
 returns-in-Err-tree_of-clause-cause g c =
-    unfetched_ends c.args.self.now _ c.in-Ok.number _ (Command.Graft c.args.target c.args.from c.args.to) c.failed.new.met c.in-Err-tree_of.fault c.failed.result c.in-Ok.ensures.retained c.failed.ensures.value
+    unfetched_ends c.args.self.now _ c.in-Ok.number _ (Command.Graft c.args.target c.args.from c.args.to) c.failed.new.met c.in-Err-tree_of.fault c.failed.result c.in-Ok.ensures.retained c.failed.ensures.value c.in-Err-tree_of.ensures.causes
     c.in-Err-tree_of.ensures.tree
 
 pub returns-in-Ok-true-clause-reads : goal.returns-in-Ok-true-clause-reads
@@ -118,7 +119,7 @@ returns-clause-cause g c =
     let command = Command.Graft c.args.target from to in
     let fault = c.in-Err-graft.fault in
     let failed = c.failed-in-Err-graft in
-    ends (tree_fault fault) command s.met failed.new.met failed.result _ (fails_as fault c.tree_fault.result s.met failed.new.met failed.result c.tree_fault.ensures failed.ensures.value)
+    ends (tree_fault fault) command s.met failed.new.met failed.result _ (fails_as fault c.tree_fault.result s.met failed.new.met failed.result c.tree_fault.ensures failed.ensures.value) (tree_apart fault c.in-Err-graft.ensures.causes.blamed)
     (λ (told, (r, v, here)).
     let of = here.holds.tables in
     let t = c.in-Ok-tree_of.ensures.tree told r here.holds (c.in-Ok.ensures.retained r of) in

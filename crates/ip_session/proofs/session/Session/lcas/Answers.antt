@@ -1,4 +1,5 @@
 use Rattle.std.proofs.Common.{refl, sym, ap, subst, ◌∙◌}
+use Rattle.std.specs.Prelude.{is_ok}
 use Rattle.ip_spec.specs.declared.command.Command.TheVariants as Command
 use Rattle.ip_spec.specs.declared.reply.Reply.{Reply}
 use Rattle.ip_held.specs.Collecting.{phase_of}
@@ -8,6 +9,7 @@ use Rattle.ip_session.specs.Session.{IsAnswered}
 use Rattle.ip_session.proofs.SessionLemmas.{lcas_refused}
 use Rattle.ip_session.proofs.Referring.{lcas_unnamed, lcas_unnamed_second, lcas_done}
 use Rattle.ip_session.proofs.Reading.{still_answered, memory_answered}
+use Rattle.ip_session.proofs.Wanted.{unnamed_memory}
 use Rattle.ip_session.proofs.session.Session.lcas.Goals as goal
 
 pub returns-in-Err-clause-answered : goal.returns-in-Err-clause-answered
@@ -39,3 +41,17 @@ returns-in-Err-lcas-clause-answered c records r v of l =
     let after : Session = record s { met = c.refuse.new.met } in
     subst (IsAnswered records s after r v (Command.Lcas c.args.one c.args.other)) (sym c.refuse.ensures.reply)
     (memory_answered records s after r v (Command.Lcas c.args.one c.args.other) refl refl l c.refuse.ensures.met (lcas_refused c.args.one c.args.other))
+
+-- ---- memory was wanted
+
+pub returns-in-Err-clause-memory : goal.returns-in-Err-clause-memory
+returns-in-Err-clause-memory c r is e = absurd (unnamed_memory r c.args.one c.in-Err.reply (c.in-Err.ensures.number r is.0) e)
+
+pub returns-in-Err-resolve-clause-memory : goal.returns-in-Err-resolve-clause-memory
+returns-in-Err-resolve-clause-memory c r is e = absurd (unnamed_memory r c.args.other c.in-Err-resolve.reply (c.in-Err-resolve.ensures.number r is.0) e)
+
+pub returns-in-Ok-lcas-clause-memory : goal.returns-in-Ok-lcas-clause-memory
+returns-in-Ok-lcas-clause-memory c r is e = (ap is_ok (sym (c.in-Ok.ensures.number r is.0)), ap is_ok (sym (c.in-Ok-resolve.ensures.number r is.0)))
+
+pub returns-in-Err-lcas-clause-memory : goal.returns-in-Err-lcas-clause-memory
+returns-in-Err-lcas-clause-memory c r is e = (ap is_ok (sym (c.in-Ok.ensures.number r is.0)), ap is_ok (sym (c.in-Ok-resolve.ensures.number r is.0)))

@@ -1,4 +1,5 @@
 use Rattle.std.proofs.Common.{refl, sym, ap, subst, ◌∙◌}
+use Rattle.std.specs.Prelude.{is_ok}
 use Rattle.ip_spec.specs.declared.command.Command.TheVariants as Command
 use Rattle.ip_spec.specs.declared.reply.Reply.{Reply}
 use Rattle.ip_held.specs.Collecting.{phase_of}
@@ -8,6 +9,7 @@ use Rattle.ip_session.specs.Session.{IsAnswered}
 use Rattle.ip_session.proofs.SessionLemmas.{log_refused}
 use Rattle.ip_session.proofs.Referring.{log_unnamed, log_done}
 use Rattle.ip_session.proofs.Reading.{still_answered, memory_answered}
+use Rattle.ip_session.proofs.Wanted.{unnamed_memory}
 use Rattle.ip_session.proofs.session.Session.log.Goals as goal
 
 pub returns-in-Err-clause-answered : goal.returns-in-Err-clause-answered
@@ -33,3 +35,14 @@ returns-in-Err-log-clause-answered c records r v of l =
     let after : Session = record s { met = c.refuse.new.met } in
     subst (IsAnswered records s after r v (Command.Log c.args.target)) (sym c.refuse.ensures.reply)
     (memory_answered records s after r v (Command.Log c.args.target) refl refl l c.refuse.ensures.met (log_refused c.args.target))
+
+-- ---- memory was wanted
+
+pub returns-in-Err-clause-memory : goal.returns-in-Err-clause-memory
+returns-in-Err-clause-memory c r is e = absurd (unnamed_memory r c.args.target c.in-Err.reply (c.in-Err.ensures.number r is.0) e)
+
+pub returns-in-Ok-log-clause-memory : goal.returns-in-Ok-log-clause-memory
+returns-in-Ok-log-clause-memory c r is e = ap is_ok (sym (c.in-Ok.ensures.number r is.0))
+
+pub returns-in-Err-log-clause-memory : goal.returns-in-Err-log-clause-memory
+returns-in-Err-log-clause-memory c r is e = ap is_ok (sym (c.in-Ok.ensures.number r is.0))

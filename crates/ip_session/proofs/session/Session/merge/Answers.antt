@@ -1,4 +1,4 @@
-use Rattle.std.proofs.Common.{sym, ap, subst, ◌∙◌, IsTrue}
+use Rattle.std.proofs.Common.{refl, sym, ap, subst, ◌∙◌, IsTrue}
 use Rattle.std.specs.Prelude.{IfSome}
 use Rattle.ip_merge.specs.Rules.{IsDecisive}
 use Rattle.ip_spec.specs.declared.command.Command.TheVariants as Command
@@ -7,13 +7,15 @@ use Rattle.ip_spec.specs.declared.reply.Reply.{Reply}
 use Rattle.ip_spec.specs.Path.{Bytes}
 use Rattle.ip_spec.specs.Repository.{Repository, is_retained}
 use Rattle.ip_held.specs.Collecting.{phase_of}
-use Rattle.ip_held.specs.Held.{Holds}
+use Rattle.ip_held.specs.Held.{Holds, image_records}
 use Rattle.ip_appends.specs.Merging.{merge_reply, AnswersMerge}
+use Rattle.ip_held.proofs.Untouched.{damage_refused}
 use Rattle.ip_session.specs.Asking.{MeetsNone}
 use Rattle.ip_session.specs.Running.{IsKnown, Runs}
 use Rattle.ip_session.specs.Session.{state_in, IsAnswer}
 use Rattle.ip_session.proofs.Asking.{faulted}
 use Rattle.ip_session.proofs.ClearGoes.{keeps_by}
+use Rattle.ip_session.proofs.Damage.{causes_apart}
 use Rattle.ip_session.proofs.DurableGoes.{by_answer, damage_of, fault_ends, fault_met, answer_counts}
 use Rattle.ip_session.proofs.MergeGoes.{has_reply, merge_serves, unmerged_goes, unmerged_placed, merge_goes, merge_cut, merge_placed}
 use Rattle.ip_session.proofs.Running.{runs_as, runs_ended}
@@ -25,8 +27,8 @@ returns-in-Err-clause-runs g c =
     record {
       serving = c.requires.tables;
       goes = λ known r v here. unmerged_goes c.args.target c.args.branch c.args.info rule _ c.args.self.now c.args.self.now.met r v here c.in-Err.reply c.requires.met (sym (c.in-Err.ensures.number r here.holds.tables));
-      placed = λ known r v here. unmerged_placed c.args.target c.args.branch c.args.info rule _ _ (state_in c.args.self.now r v) v c.in-Err.reply (sym (c.in-Err.ensures.number r here.holds.tables));
-      clear = λ known r v here. keeps_by _ _ c.args.self.now _ (Command.Merge c.args.target c.args.branch c.args.info) c.in-Err.reply (λ may. may) (λ clear. clear);
+      placed = λ known r v here. unmerged_placed c.args.target c.args.branch c.args.info rule (image_records here.holds) _ _ (state_in c.args.self.now r v) v c.in-Err.reply (sym (c.in-Err.ensures.number r here.holds.tables));
+      clear = λ known r v here. keeps_by _ _ c.args.self.now _ (Command.Merge c.args.target c.args.branch c.args.info) c.in-Err.reply (λ may. may) (λ clear. clear) refl;
       cut = λ known r v here. tt;
       cause = tt;
       untouched = λ told met. absurd met;
@@ -69,12 +71,12 @@ returns-clause-runs g c =
           let tables = here.holds.tables in
           let retained = c.in-Ok.ensures.retained r tables in
           merge_placed rule a b s call.new.self merges.same_collection r v here target name info n (sym (c.in-Ok.ensures.number r tables)) made reply is (merges.merges known.0 known.1 r here.holds retained).appends (merges.merges known.0 known.1 r here.holds retained).limits;
-      clear = λ told r v here. keeps_by a b s after (Command.Merge target name info) reply (λ may. may) (merges.clear told (has_reply name made reply is) r here.holds);
+      clear = λ told r v here. keeps_by a b s after (Command.Merge target name info) reply (λ may. may) (merges.clear told (has_reply name made reply is) r here.holds) merges.unswept;
       cut = λ known r v here. tt;
       cause = tt;
       untouched = λ told met. absurd met;
     })
-    (λ end is. runs_ended (IsTrue g.G.Ground.tells) (IsTrue g.G.Ground.tells × IsDecisive rule) rule a b s after (Command.Merge target name info) end (fault_ends made end (IsKnown (IsTrue g.G.Ground.tells × IsDecisive rule) a s) is (λ (known, (r, v, here)). (merges.merges known.0 known.1 r here.holds (c.in-Ok.ensures.retained r here.holds.tables)).undamaged)) (λ told met. merges.untouched told (damage_of made end is met))
+    (λ end is. runs_ended (IsTrue g.G.Ground.tells) (IsTrue g.G.Ground.tells × IsDecisive rule) rule a b s after (Command.Merge target name info) end (fault_ends made end (IsKnown (IsTrue g.G.Ground.tells × IsDecisive rule) a s) is (causes_apart g.G.Ground.tells a s.store.held.space made merges.causes) (λ (known, (r, v, here)). (merges.merges known.0 known.1 r here.holds (c.in-Ok.ensures.retained r here.holds.tables)).undamaged)) (λ told met. let refused = damage_refused made (damage_of made end is met) in merges.untouched told refused.0 refused.1)
     (λ known r v here.
     let tables = here.holds.tables in
     merge_cut rule a b s call.new.self merges.same_collection r v here target name info n (sym (c.in-Ok.ensures.number r tables)) _ made (c.met-self.ensures ∙ call.ensures.met ∙ fault_met made end is) (merges.merges known.0 known.1 r here.holds (c.in-Ok.ensures.retained r tables)).any_moment)))

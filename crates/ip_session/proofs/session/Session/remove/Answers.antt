@@ -7,6 +7,7 @@ use Rattle.ip_held.specs.Collecting.{phase_of}
 use Rattle.ip_held.specs.Work.{work_at}
 use Rattle.ip_session.specs.Session.{state_in, tree_fault}
 use Rattle.ip_session.proofs.SessionLemmas.{rm_refused}
+use Rattle.ip_session.proofs.Damage.{tree_apart}
 use Rattle.ip_session.proofs.Reading.{given_read, not_given, read_as, rm_read, same_read, failed_read, fails_as, free_refuses, absent_gives, ends}
 use Rattle.ip_session.proofs.session.Session.remove.Goals as goal
 
@@ -52,7 +53,7 @@ returns-clause-cause g c =
     let there = not_given s c.given_up.result (search rules) c.given_up.ensures in
     let path = c.steps.result.now in
     ends (tree_fault c.in-Err.fault) (Command.Rm path) s.met c.failed.new.met c.failed.result _
-    (fails_as c.in-Err.fault c.tree_fault.result s.met c.failed.new.met c.failed.result c.tree_fault.ensures c.failed.ensures.value)
+    (fails_as c.in-Err.fault c.tree_fault.result s.met c.failed.new.met c.failed.result c.tree_fault.ensures c.failed.ensures.value) (tree_apart c.in-Err.fault c.in-Err.ensures.causes.blamed)
     (λ (told, (r, v, here)).
     let not_removed = c.in-Err.ensures.removes told r v here.holds (here.lawful.tree (there r here.holds.tables)) in
     (state_in s r v, free_refuses (state_in s r v) (Command.Rm path) c.in-Err.fault not_removed.cause))

@@ -14,6 +14,7 @@ use Rattle.ip_session.specs.Session.{unasked, IsAnswer}
 use Rattle.ip_session.proofs.Asking.{faulted}
 use Rattle.ip_session.proofs.BranchGoes.{serves, remove_goes, remove_cut, has_answer_removed}
 use Rattle.ip_session.proofs.ClearGoes.{keeps_by}
+use Rattle.ip_session.proofs.Damage.{sound_apart}
 use Rattle.ip_session.proofs.DurableGoes.{by_answer, damage_of, fault_ends, fault_ground, fault_met, answer_counts}
 use Rattle.ip_session.proofs.Placing.{remove_placed}
 use Rattle.ip_session.proofs.Running.{runs_as, runs_ended}
@@ -43,12 +44,12 @@ returns-clause-runs g c =
           (λ has q now kept parents. record { holds = now; lawful = works_stay _ _ r q _ v here.lawful (λ there. (removes.grew told r here.holds).stay has q now) (omega (arith, kept)) parents })
           reply c.met-self.ensures is (λ absent. ap g.G.Ground.told (call.ensures.absent absent)) (subst (λ (m : Met). IfSome (removed_reply name made) (AnswersRemove r (phase_of s.store.held.collection) name m store.held)) (sym call.ensures.met) (removes.answered r here.holds.tables));
       placed = λ told r v here. remove_placed a b s store r v here name made reply is (removes.took told r here.holds).changes removes.limits (λ absent. ap g.G.Ground.told (call.ensures.absent absent)) (removes.appends told);
-      clear = λ told r v here. keeps_by a b s after (Command.BranchRm name) reply (λ may. may) ((removes.took told r here.holds).clear (has_answer_removed name made reply is));
+      clear = λ told r v here. keeps_by a b s after (Command.BranchRm name) reply (λ may. may) ((removes.took told r here.holds).clear (has_answer_removed name made reply is)) removes.unswept;
       cut = λ told r v here. tt;
       cause = tt;
       untouched = λ told met. absurd met;
     })
-    (λ end is. runs_ended (IsTrue g.G.Ground.tells) (IsTrue g.G.Ground.tells) unasked a b s after (Command.BranchRm name) end (fault_ends made end (IsKnown (IsTrue g.G.Ground.tells) a s) is (λ held. removes.undamaged)) (λ told met. absurd (damage_of made end is met removes.undamaged)) (λ told r v here.
+    (λ end is. runs_ended (IsTrue g.G.Ground.tells) (IsTrue g.G.Ground.tells) unasked a b s after (Command.BranchRm name) end (fault_ends made end (IsKnown (IsTrue g.G.Ground.tells) a s) is (sound_apart made removes.undamaged) (λ held. removes.undamaged)) (λ told met. absurd (damage_of made end is met removes.undamaged)) (λ told r v here.
     remove_cut a b s store _ r v here name made removes.same_collection (removes.took told r here.holds).changes
     (λ has q now kept parents. record { holds = now; lawful = works_stay _ _ r q _ v here.lawful (λ there. (removes.grew told r here.holds).stay has q now) (omega (arith, kept)) parents })
     (c.met-self.ensures ∙ call.ensures.met ∙ fault_met made end is) (removes.begun r here.holds.tables (fault_ground made end is removes.undamaged)))))

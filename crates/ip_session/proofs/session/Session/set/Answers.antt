@@ -4,6 +4,7 @@ use Rattle.ip_held.specs.Collecting.{phase_of}
 use Rattle.ip_held.specs.Work.{work_at}
 use Rattle.ip_session.specs.Session.{state_in, tree_fault}
 use Rattle.ip_session.proofs.SessionLemmas.{set_refused}
+use Rattle.ip_session.proofs.Damage.{tree_apart}
 use Rattle.ip_session.proofs.Reading.{given_read, not_given, read_as, set_read, failed_read, fails_as, set_refuses, ends}
 use Rattle.ip_session.proofs.session.Session.set.Goals as goal
 
@@ -41,7 +42,7 @@ returns-clause-cause g c =
     let path = c.steps.result.now in
     let bytes = c.as_slice.result.now in
     ends (tree_fault c.in-Err.fault) (Command.Set path bytes) s.met c.failed.new.met c.failed.result _
-    (fails_as c.in-Err.fault c.tree_fault.result s.met c.failed.new.met c.failed.result c.tree_fault.ensures c.failed.ensures.value)
+    (fails_as c.in-Err.fault c.tree_fault.result s.met c.failed.new.met c.failed.result c.tree_fault.ensures c.failed.ensures.value) (tree_apart c.in-Err.fault c.in-Err.ensures.causes.blamed)
     (λ (told, (r, v, here)).
     let not_set = c.in-Err.ensures.sets told r v here.holds (here.lawful.tree (there r here.holds.tables)) in
     (state_in s r v, set_refuses r (phase_of s.store.held.collection) (work_at s.work v) path bytes c.in-Err.fault (there r here.holds.tables) not_set.cause))

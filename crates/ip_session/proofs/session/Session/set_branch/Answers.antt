@@ -1,4 +1,4 @@
-use Rattle.std.proofs.Common.{arith, sym, ap, subst, ◌∙◌, IsTrue, Option}
+use Rattle.std.proofs.Common.{refl, arith, sym, ap, subst, ◌∙◌, IsTrue, Option}
 use Rattle.std.specs.Prelude.{IfSome}
 use Rattle.ip_spec.specs.declared.command.Command.TheVariants as Command
 use Rattle.ip_spec.specs.declared.met.Met.{Met}
@@ -8,12 +8,14 @@ use Rattle.ip_held.specs.Answers.{met_by}
 use Rattle.ip_held.specs.Collecting.{phase_of}
 use Rattle.ip_appends.specs.Naming.{branch_reply, AnswersSet}
 use Rattle.ip_held.proofs.Works.{works_stay}
+use Rattle.ip_held.specs.Held.{image_records}
 use Rattle.ip_session.specs.Asking.{MeetsNone}
 use Rattle.ip_session.specs.Running.{IsKnown, Runs}
 use Rattle.ip_session.specs.Session.{unasked, state_in}
 use Rattle.ip_session.proofs.Asking.{faulted}
 use Rattle.ip_session.proofs.BranchGoes.{unnamed_goes, serves, set_goes, set_cut, has_answer_set}
 use Rattle.ip_session.proofs.ClearGoes.{keeps_by}
+use Rattle.ip_session.proofs.Damage.{sound_apart}
 use Rattle.ip_session.proofs.DurableGoes.{by_answer, damage_of, fault_ends, fault_ground, fault_met, answer_counts}
 use Rattle.ip_session.proofs.Placing.{unnamed_placed, set_placed}
 use Rattle.ip_session.proofs.Running.{runs_as, runs_ended}
@@ -28,8 +30,8 @@ pub returns-in-Err-clause-runs : goal.returns-in-Err-clause-runs
 returns-in-Err-clause-runs g c = record {
   serving = c.requires.tables;
   goes = λ told r v here. unnamed_goes _ c.args.self.now c.args.self.now.met r v here c.args.name c.args.target c.in-Err.reply c.requires.met (sym (c.in-Err.ensures.number r here.holds.tables));
-  placed = λ told r v here. unnamed_placed _ _ (state_in c.args.self.now r v) v c.args.name c.args.target c.in-Err.reply (sym (c.in-Err.ensures.number r here.holds.tables));
-  clear = λ told r v here. keeps_by _ _ c.args.self.now _ (Command.Branch c.args.name c.args.target) c.in-Err.reply (λ may. may) (λ clear. clear);
+  placed = λ told r v here. unnamed_placed (image_records here.holds) _ _ (state_in c.args.self.now r v) v c.args.name c.args.target c.in-Err.reply (sym (c.in-Err.ensures.number r here.holds.tables));
+  clear = λ told r v here. keeps_by _ _ c.args.self.now _ (Command.Branch c.args.name c.args.target) c.in-Err.reply (λ may. may) (λ clear. clear) refl;
   cut = λ told r v here. tt;
   cause = tt;
   untouched = λ told met. absurd met;
@@ -63,12 +65,12 @@ returns-clause-runs g c =
       placed = λ told r v here.
           let tables = here.holds.tables in
           set_placed a b s store r v here name target n (sym (c.in-Ok.ensures.number r tables)) made reply is (sets.took told r here.holds (c.in-Ok.ensures.retained r tables)).changes sets.limits (sets.appends told);
-      clear = λ told r v here. keeps_by a b s after (Command.Branch name target) reply (λ may. may) ((sets.took told r here.holds (c.in-Ok.ensures.retained r here.holds.tables)).clear (has_answer_set made reply is));
+      clear = λ told r v here. keeps_by a b s after (Command.Branch name target) reply (λ may. may) ((sets.took told r here.holds (c.in-Ok.ensures.retained r here.holds.tables)).clear (has_answer_set made reply is)) sets.unswept;
       cut = λ told r v here. tt;
       cause = tt;
       untouched = λ told met. absurd met;
     })
-    (λ end is. runs_ended (IsTrue g.G.Ground.tells) (IsTrue g.G.Ground.tells) unasked a b s after (Command.Branch name target) end (fault_ends made end (IsKnown (IsTrue g.G.Ground.tells) a s) is (λ held. sets.undamaged)) (λ told met. absurd (damage_of made end is met sets.undamaged)) (λ told r v here.
+    (λ end is. runs_ended (IsTrue g.G.Ground.tells) (IsTrue g.G.Ground.tells) unasked a b s after (Command.Branch name target) end (fault_ends made end (IsKnown (IsTrue g.G.Ground.tells) a s) is (sound_apart made sets.undamaged) (λ held. sets.undamaged)) (λ told met. absurd (damage_of made end is met sets.undamaged)) (λ told r v here.
     let tables = here.holds.tables in
     let retained = c.in-Ok.ensures.retained r tables in
     let begun = sets.begun r tables (fault_ground made end is sets.undamaged) in

@@ -1,11 +1,15 @@
-use Rattle.std.proofs.Common.{refl, sym}
+use Rattle.std.proofs.Common.{refl, sym, ap}
+use Rattle.std.specs.Prelude.{is_ok}
 use Rattle.ip_spec.specs.declared.command.Command.TheVariants as Command
 use Rattle.ip_held.specs.Collecting.{phase_of}
 use Rattle.ip_held.specs.Work.{work_at}
+use Rattle.ip_reads.specs.declared.commit.Shown.{Shown}
 use Rattle.ip_session.specs.Session.{state_in}
 use Rattle.ip_session.proofs.SessionLemmas.{show_refused}
 use Rattle.ip_session.proofs.Referring.{show_unnamed}
+use Rattle.ip_session.proofs.Damage.{commit_apart}
 use Rattle.ip_session.proofs.Reading.{unread, same_read, failed_read, unshown_refuses, ends, shown_gives}
+use Rattle.ip_session.proofs.Wanted.{unnamed_memory}
 use Rattle.ip_session.proofs.session.Session.show.Goals as goal
 
 pub returns-in-Err-clause-reads : goal.returns-in-Err-clause-reads
@@ -40,8 +44,20 @@ returns-in-Err-show-clause-reads g c =
 pub returns-in-Err-show-clause-cause : goal.returns-in-Err-show-clause-cause
 returns-in-Err-show-clause-cause g c =
     let s = c.args.self.now in
-    ends c.in-Err-show.fault (Command.Show c.args.target) s.met c.failed.new.met c.failed.result _ c.failed.ensures.value
+    let (r, is) = c.requires.tables in
+    ends c.in-Err-show.fault (Command.Show c.args.target) s.met c.failed.new.met c.failed.result _ c.failed.ensures.value (commit_apart Shown _ _ c.in-Err-show.fault (c.in-Err-show.ensures.blames r is.0 (c.in-Ok.ensures.retained r is.0)))
     (λ (told, (r, v, here)). (
       state_in s r v,
       unshown_refuses r c.in-Ok.number (state_in s r v) (Command.Show c.args.target) c.in-Err-show.fault (c.in-Err-show.ensures.shows told r here.holds (c.in-Ok.ensures.retained r here.holds.tables)),
     ))
+
+-- ---- memory was wanted
+
+pub returns-in-Err-clause-memory : goal.returns-in-Err-clause-memory
+returns-in-Err-clause-memory g c r is e = absurd (unnamed_memory r c.args.target c.in-Err.reply (c.in-Err.ensures.number r is.0) e)
+
+pub returns-in-Ok-show-clause-memory : goal.returns-in-Ok-show-clause-memory
+returns-in-Ok-show-clause-memory g c r is e = ap is_ok (sym (c.in-Ok.ensures.number r is.0))
+
+pub returns-in-Err-show-clause-memory : goal.returns-in-Err-show-clause-memory
+returns-in-Err-show-clause-memory g c r is e = ap is_ok (sym (c.in-Ok.ensures.number r is.0))

@@ -4,6 +4,7 @@ use Rattle.ip_spec.specs.Line.{Reads, IsLineOf}
 use Rattle.ip_script.proofs.LineLaw.{one_command}
 use Rattle.ip_script.proofs.ReadLaw.{each_line}
 use Rattle.ip_held.specs.Collecting.{phase_of}
+use Rattle.ip_held.specs.Held.{image_records}
 use Rattle.ip_held.specs.Work.{work_at}
 use Rattle.ip_spec.specs.declared.met.Met.{Met}
 use Rattle.ip_spec.specs.Step.{IsSwept}
@@ -18,6 +19,8 @@ use Rattle.ip_session.specs.Running.{IsKnown}
 use Rattle.ip_session.specs.Session.{state_in, IsHeld}
 use Rattle.ip_session.proofs.Running.{ends_more}
 use Rattle.ip_spec.specs.declared.reply.Reply.{Reply}
+use Rattle.ip_spec.specs.declared.command.Command.{Command}
+use Rattle.ip_session.specs.Wanting.{MayWant}
 use Rattle.ip_session.proofs.session.Session.step.Goals as goal
 
 pub returns-in-Ok-clause-tables : goal.returns-in-Ok-clause-tables
@@ -39,25 +42,25 @@ returns-in-Err-Memory-clause-goes g c told decisive r v here = refused_goes _ _ 
     (line_refused (g.D.Decides.rule c.args.rules.now) r (phase_of c.args.self.now.store.held.collection) (work_at c.args.self.now.work v) c.args.line.now (each_line c.args.line.now) (has_words c.args.line.now c.in-Err-Memory.field-0 c.in-Err-Memory.field-0-is c.in-Err-Memory.ensures.one_word))
 
 pub returns-in-Ok-clause-placed : goal.returns-in-Ok-clause-placed
-returns-in-Ok-clause-placed g c told decisive r v here = lined_placed _ _ _ _ _ v c.in-Ok.command c.args.line.now c.run.result c.in-Ok.ensures.reads
+returns-in-Ok-clause-placed g c told decisive r v here = lined_placed _ _ _ _ _ _ v c.in-Ok.command c.args.line.now c.run.result c.in-Ok.ensures.reads
     (λ other spelled. one_command c.args.line.now other c.in-Ok.command spelled c.in-Ok.ensures.reads) (c.run.ensures.runs.placed (told, decisive) r v here)
 
 pub returns-in-Err-Bad-clause-placed : goal.returns-in-Err-Bad-clause-placed
-returns-in-Err-Bad-clause-placed g c told decisive r v here = quiet_placed _ _ _ _ _ v c.args.line.now (Reply.Bad c.in-Err-Bad.at) (λ command h. h) (λ command h. h) (λ l is. absurd (cc is)) tt refl
+returns-in-Err-Bad-clause-placed g c told decisive r v here = quiet_placed _ _ _ _ _ _ v c.args.line.now (Reply.Bad c.in-Err-Bad.at) (λ command h. h) (λ command h. h) (λ l is. absurd (cc is)) tt refl
 
 pub returns-in-Err-Memory-clause-placed : goal.returns-in-Err-Memory-clause-placed
 returns-in-Err-Memory-clause-placed g c told decisive r v here =
-    subst (PlacedIn (g.D.Decides.rule c.args.rules.now) c.args.self.now.store.held.slot c.args.self.now.store.held.unswept c.args.self.now.store.held.slot (state_in c.args.self.now r v) v c.args.line.now) (sym c.refuse.ensures.reply) (quiet_placed _ _ _ _ _ v c.args.line.now Reply.Memory (λ command h. h) (λ command h. h) (λ l is. absurd (cc is)) tt refl)
+    subst (PlacedIn (g.D.Decides.rule c.args.rules.now) (image_records here.holds) c.args.self.now.store.held.slot c.args.self.now.store.held.unswept c.args.self.now.store.held.slot (state_in c.args.self.now r v) v c.args.line.now) (sym c.refuse.ensures.reply) (quiet_placed _ _ _ _ _ _ v c.args.line.now Reply.Memory (λ command h. h) (λ command h. h) (λ l is. absurd (cc is)) tt refl)
 
 pub returns-in-Ok-clause-clear : goal.returns-in-Ok-clause-clear
-returns-in-Ok-clause-clear g c told r v here = lined_clear _ _ c.args.self.now c.run.new.self c.met_only-self.result c.in-Ok.command c.args.line.now c.run.result
+returns-in-Ok-clause-clear g c told r v here = lined_clear _ _ c.args.self.now c.run.new.self c.met_only-self.result c.in-Ok.command c.args.line.now c.run.result c.in-Ok.ensures.reads
     (λ other spelled. one_command c.args.line.now other c.in-Ok.command spelled c.in-Ok.ensures.reads) (c.run.ensures.runs.clear told r v here)
 
 pub returns-in-Err-Bad-clause-clear : goal.returns-in-Err-Bad-clause-clear
-returns-in-Err-Bad-clause-clear g c told r v here = quiet_clear _ _ c.args.self.now _ c.args.line.now (Reply.Bad c.in-Err-Bad.at) (λ h. h) (λ clear. clear)
+returns-in-Err-Bad-clause-clear g c told r v here = quiet_clear _ _ c.args.self.now _ c.args.line.now (Reply.Bad c.in-Err-Bad.at) (λ h. h) (λ clear. clear) refl
 
 pub returns-in-Err-Memory-clause-clear : goal.returns-in-Err-Memory-clause-clear
-returns-in-Err-Memory-clause-clear g c told r v here = quiet_clear _ _ c.args.self.now _ c.args.line.now c.refuse.result (subst (λ (x : Reply). ¬ IsSwept x) (sym c.refuse.ensures.reply) (λ h. h)) (λ clear. clear)
+returns-in-Err-Memory-clause-clear g c told r v here = quiet_clear _ _ c.args.self.now _ c.args.line.now c.refuse.result (subst (λ (x : Reply). ¬ IsSwept x) (sym c.refuse.ensures.reply) (λ h. h)) (λ clear. clear) refl
 
 pub returns-in-Ok-clause-asked : goal.returns-in-Ok-clause-asked
 returns-in-Ok-clause-asked g c = lined_asked _ _ _ _ c.args.self.now c.run.new.self c.met_only-self.result c.in-Ok.command c.args.line.now c.run.result _ _ c.in-Ok.ensures.reads
@@ -92,3 +95,16 @@ returns-in-Err-Memory-clause-asked g c = nothing_spawned _ _ _ c.args.self.now _
 
 pub returns-in-Err-Memory-clause-counts : goal.returns-in-Err-Memory-clause-counts
 returns-in-Err-Memory-clause-counts g c = none_counts c.args.line.now c.refuse.result c.refuse.new.met _ (ap (λ (m : Met). m.left) c.refuse.ensures.met)
+
+-- ---- memory was wanted
+
+pub returns-in-Ok-clause-memory : goal.returns-in-Ok-clause-memory
+returns-in-Ok-clause-memory g c command spelled frugal r is e =
+    let same = one_command c.args.line.now command c.in-Ok.command spelled c.in-Ok.ensures.reads in
+    subst (λ (k : Command). MayWant c.args.self.now.store.held.collection c.args.self.now.work r k c.run.new.self.met.child) (sym same) (c.run.ensures.memory r is e)
+
+pub returns-in-Err-Bad-clause-memory : goal.returns-in-Err-Bad-clause-memory
+returns-in-Err-Bad-clause-memory g c command spelled frugal r is e = absurd (cc e)
+
+pub returns-in-Err-Memory-clause-memory : goal.returns-in-Err-Memory-clause-memory
+returns-in-Err-Memory-clause-memory g c command spelled frugal r is e = absurd (c.in-Err-Memory.ensures.spare command spelled frugal (ap Err c.in-Err-Memory.field-0-is))
