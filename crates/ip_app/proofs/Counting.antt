@@ -2,16 +2,16 @@
 --     spawns_itself, spawns_on      nor does a spawner's
 --     risen      a count that rose did not fall.      falls_same, file_falls, say_falls, damage_falls, falls_if, falls_bound, falls_of      no count falls, where those that may rise are in their type's range
 --     removals_itself, removals_same, removals_bound, removals_on, falls_removals      none rises but that of removals.      removals_any      so it is of a session that answered
---     serving_of, serving_on, say_counts      so the ground counts, where it serves
+--     no_damage      of a status that none is of.      serving_of, serving_on, say_counts      so the ground counts, where it serves
 --     later_of, counts_same      so it is of what a turn tells of them.      still_at      and of a turn that tells what the ground counted at first
 --     attach_counts, attach_none, attached_same      a folder could not be bound, or was.      bound_to dir noted      it is.      bound_counts, bound_still      and stays so.      bound_if, bound_any      none is bound anew
---     ended_counts      the end of a session counts what its status says
+--     ended_counts, cut_counts      the end of a session counts what its status says, and so it is of the ground, where it serves
 --     follow_more      turns one after another, while no fault of a file is counted
-use Rattle.std.specs.Prelude.{is_err}
-use Rattle.std.proofs.Common.{◌≡◌, ℕ, ◌-◌, ◌^◌, ◌≤◌, Bool, true, false, List, [], ◌∷◌, ◌++◌, inl, inr, refl, sym, ap, ap₂, ◌∙◌, subst, arith, Option, None, Some, Result, Ok, Err}
+use Rattle.std.specs.Prelude.{is_err, min}
+use Rattle.std.proofs.Common.{◌≡◌, ℕ, ◌+◌, ◌-◌, ◌^◌, ◌≤◌, Bool, true, false, List, [], ◌∷◌, ◌++◌, inl, inr, refl, sym, ap, ap₂, ◌∙◌, subst, arith, Option, None, Some, Result, Ok, Err}
 use Rattle.ip_ground.specs.declared.names.GroundFault.{GroundFault}
-use Rattle.ip_ground.specs.Counts.{Noted, Counted, as_nothing, as_fault, as_damage, Rose, RoseBy, NoneFalls, FileFault, SayFault, DamageFound, CountsIf, Attaches}
-use Rattle.ip_ground.proofs.Rising.{falls_itself}
+use Rattle.ip_ground.specs.Counts.{Noted, Counted, as_nothing, as_fault, as_damage, Rose, RoseBy, NoneFalls, FileFault, SayFault, DamageFound, CountsIf, Binding, binds, Attaches}
+use Rattle.ip_ground.proofs.Rising.{falls_itself, damage_rose}
 use Rattle.ip_image.specs.declared.counts.TurnCounts.{TurnCounts}
 use Rattle.ip_session.specs.declared.session.SessionEnd.{SessionEnd}
 use Rattle.ip_session.specs.Session.{counted_end, CountsAny}
@@ -21,6 +21,7 @@ use Rattle.ip_app.specs.declared.turn_log.Turn.{Turn}
 use Rattle.ip_app.specs.declared.statuses.Status.{Status}
 use Rattle.ip_app.specs.declared.statuses.Status.TheVariants as status
 use Rattle.ip_app.specs.Serving.{ended_status, CountsOf, OnlyRemovals, ASayFault, ADamage, CountsServing}
+use Rattle.ip_app.specs.Exchanging.{CountsCut, IsDamage}
 use Rattle.ip_spawn.specs.declared.spawner.SpawnCounts.{SpawnCounts}
 use Rattle.ip_app.specs.Outside.{but_bound}
 use Rattle.ip_app.specs.Turns.{turn_counts, SpawnsLater, IsLater, Follow}
@@ -44,7 +45,7 @@ say_falls a b small fault = let held = fault.file_faults in let removed = fault.
 
 pub damage_falls : (a b : Noted) → a.damages ≤ 2 ^ 64 - 1 → DamageFound a b → NoneFalls a b
 damage_falls a b small found = let held = found.file_faults in let removed = found.remove_faults in let said = found.say_faults in
-    record { file_faults = omega (arith, held); remove_faults = omega (arith, removed); say_faults = omega (arith, said); damages = risen a.damages b.damages small found.rose }
+    record { file_faults = omega (arith, held); remove_faults = omega (arith, removed); say_faults = omega (arith, said); damages = risen a.damages b.damages small (damage_rose a b found) }
 
 pub falls_if : (met : Counted) (a b : Noted) → a.file_faults ≤ 2 ^ 64 - 1 → a.damages ≤ 2 ^ 64 - 1 → CountsIf met a b → NoneFalls a b
 falls_if as_nothing a b files harms same = falls_same a b same
@@ -77,13 +78,13 @@ falls_of s a b files says harms counted = falls_bound a b (by_status s counted)
 -- ---- the folder that is bound
 
 abbrev pub bound_to : Bytes → Noted → Noted
-bound_to dir noted = record noted { bound = Some dir }
+bound_to dir noted = record noted { bound = binds dir (Some dir) noted.bound }
 
 pub attach_counts : (dir : Bytes) (r : Result (Unit {0}) GroundFault) (a b : Noted) → is_err r ≡ true → Attaches dir r a b → FileFault (but_bound a b) b
 attach_counts dir (Ok u) a b e counted = absurd (cc e)
 attach_counts dir (Err fault) a b e counted = record { rose = counted.rose; remove_faults = counted.remove_faults; say_faults = counted.say_faults; damages = counted.damages; bound = refl }
 
-pub attach_none : (dir : Bytes) (r : Result (Unit {0}) GroundFault) (a b : Noted) → is_err r ≡ true → Attaches dir r a b → b.bound ≡ None
+pub attach_none : (dir : Bytes) (r : Result (Unit {0}) GroundFault) (a b : Noted) → is_err r ≡ true → Attaches dir r a b → b.bound ≡ binds dir None a.bound
 attach_none dir (Ok u) a b e counted = absurd (cc e)
 attach_none dir (Err fault) a b e counted = counted.bound
 
@@ -93,11 +94,11 @@ attached_same dir (Err fault) a b e counted = absurd (cc e)
 
 -- what was counted behind it
 pub bound_counts : (dir : Bytes) (a b : Noted) (met : Counted) → CountsIf met (bound_to dir a) b → CountsIf met (but_bound a b) b
-bound_counts dir a b as_nothing same = same ∙ ap (λ (o : Option Bytes). record a { bound = o }) (sym (ap (λ (n : Noted). n.bound) same))
+bound_counts dir a b as_nothing same = same ∙ ap (λ (o : Binding). record a { bound = o }) (sym (ap (λ (n : Noted). n.bound) same))
 bound_counts dir a b as_fault h = record { rose = h.rose; remove_faults = h.remove_faults; say_faults = h.say_faults; damages = h.damages; bound = refl }
-bound_counts dir a b as_damage h = record { rose = h.rose; file_faults = h.file_faults; remove_faults = h.remove_faults; say_faults = h.say_faults; bound = refl }
+bound_counts dir a b as_damage h = record { once = h.once; file_faults = h.file_faults; remove_faults = h.remove_faults; say_faults = h.say_faults; bound = refl }
 
-pub bound_still : (dir : Bytes) (a b : Noted) (met : Counted) → CountsIf met (bound_to dir a) b → b.bound ≡ Some dir
+pub bound_still : (dir : Bytes) (a b : Noted) (met : Counted) → CountsIf met (bound_to dir a) b → b.bound ≡ binds dir (Some dir) a.bound
 bound_still dir a b as_nothing same = ap (λ (n : Noted). n.bound) same
 bound_still dir a b as_fault h = h.bound
 bound_still dir a b as_damage h = h.bound
@@ -138,10 +139,15 @@ IsNoDamage (status.DamagedRecord at) = ⊥
 IsNoDamage (status.DamagedName at want got) = ⊥
 IsNoDamage _ = Unit {0}
 
+pub no_damage : (s : Status) → IsNoDamage s → IsDamage s → ⊥
+no_damage (status.DamagedRecord at) sound damage = sound
+no_damage (status.DamagedName at want got) sound damage = sound
+no_damage _ sound damage = damage
+
 pub serving_of : (s : Status) (a b : Noted) → IsNoDamage s → CountsOf s a b → CountsServing s a b
 serving_of status.GroundFault a b other h = record { rose = h.rose; say_faults = h.say_faults; damages = h.damages; remove_faults = (let same = h.remove_faults in omega (arith, same)) }
 serving_of status.SayFault a b other h = record { rose = h.rose; file_faults = h.file_faults; damages = h.damages; remove_faults = (let same = h.remove_faults in omega (arith, same)) }
-serving_of (status.Damaged file at) a b other h = record { rose = h.rose; file_faults = h.file_faults; say_faults = h.say_faults; remove_faults = (let same = h.remove_faults in omega (arith, same)) }
+serving_of (status.Damaged file at) a b other h = record { once = h.once; file_faults = h.file_faults; say_faults = h.say_faults; remove_faults = (let same = h.remove_faults in omega (arith, same)) }
 serving_of status.Done a b other h = removals_bound a b h
 serving_of status.Unfinished a b other h = removals_bound a b h
 serving_of (status.Limit bound) a b other h = removals_bound a b h
@@ -158,7 +164,7 @@ pub serving_on : (s : Status) (a b c : Noted) → OnlyRemovals a b → CountsSer
 serving_on s a b c one = by_status s
   where
     damage : ADamage b c → ADamage a c
-    damage h = record { rose = subst (λ (n : ℕ). Rose n c.damages) one.damages h.rose; file_faults = h.file_faults ∙ one.file_faults; say_faults = h.say_faults ∙ one.say_faults; remove_faults = omega (arith, one.remove_faults, h.remove_faults) }
+    damage h = record { once = h.once ∙ ap (λ (n : ℕ). min (n + 1) (2 ^ 64 - 1)) one.damages; file_faults = h.file_faults ∙ one.file_faults; say_faults = h.say_faults ∙ one.say_faults; remove_faults = omega (arith, one.remove_faults, h.remove_faults) }
 
     by_status : (s : Status) → CountsServing s b c → CountsServing s a c
     by_status status.GroundFault h = record { rose = subst (λ (n : ℕ). Rose n c.file_faults) one.file_faults h.rose; say_faults = h.say_faults ∙ one.say_faults; damages = h.damages ∙ one.damages; remove_faults = omega (arith, one.remove_faults, h.remove_faults) }
@@ -177,10 +183,16 @@ serving_on s a b c one = by_status s
     by_status status.Exists h = removals_on a b c one h
 
 -- what was counted while no folder was bound anew
-pub ended_counts : (end : SessionEnd) (a b : Noted) → CountsIf (counted_end end) a b → CountsServing (ended_status end) a b
-ended_counts SessionEnd.Ground a b h = record { rose = h.rose; say_faults = h.say_faults; damages = h.damages; remove_faults = (let same = h.remove_faults in omega (arith, same)) }
-ended_counts (SessionEnd.Damaged at None) a b h = record { rose = h.rose; file_faults = h.file_faults; say_faults = h.say_faults; remove_faults = (let same = h.remove_faults in omega (arith, same)) }
-ended_counts (SessionEnd.Damaged at (Some (want, got))) a b h = record { rose = h.rose; file_faults = h.file_faults; say_faults = h.say_faults; remove_faults = (let same = h.remove_faults in omega (arith, same)) }
+pub ended_counts : (end : SessionEnd) (a b : Noted) → CountsIf (counted_end end) a b → CountsCut (ended_status end) a b
+ended_counts SessionEnd.Ground a b h = h
+ended_counts (SessionEnd.Damaged at None) a b h = h
+ended_counts (SessionEnd.Damaged at (Some (want, got))) a b h = h
+
+pub cut_counts : (s : Status) (a b : Noted) → CountsCut s a b → CountsServing s a b
+cut_counts status.GroundFault a b h = record { rose = h.rose; say_faults = h.say_faults; damages = h.damages; remove_faults = (let same = h.remove_faults in omega (arith, same)) }
+cut_counts (status.DamagedRecord at) a b h = record { once = h.once; file_faults = h.file_faults; say_faults = h.say_faults; remove_faults = (let same = h.remove_faults in omega (arith, same)) }
+cut_counts (status.DamagedName at want got) a b h = record { once = h.once; file_faults = h.file_faults; say_faults = h.say_faults; remove_faults = (let same = h.remove_faults in omega (arith, same)) }
+cut_counts _ a b h = absurd h
 
 pub say_counts : (a b : Noted) → SayFault a b → ASayFault a b
 say_counts a b h = record { rose = h.rose; file_faults = h.file_faults; damages = h.damages; remove_faults = (let same = h.remove_faults in omega (arith, same)) }

@@ -184,7 +184,7 @@ at_most status.Exists r t E o h = absurd o
 ends_here : (s : Status) (left : List ℕ) (n taken : ℕ) → IsOfBytes s → EndsReading s n taken (left ≡ []) → ending_from n taken left ≡ s
 ends_here status.Done left n taken o h = ap (ending_from n taken) h.0 ∙ at_end_done n taken h.1 h.2
 ends_here status.Unfinished left n taken o h = ap (ending_from n taken) h.0 ∙ at_end_unfinished n taken h.1 h.2 h.3
-ends_here (status.Limit bound.Line) left n taken o h = line_over n taken left h.0
+ends_here (status.Limit bound.Line) left n taken o h = line_over n taken left (omega (arith, h.0))
 ends_here (status.Limit bound.Input) left n taken o h = input_over n taken left h.0 (omega (arith, h.1))
 ends_here status.ReadFault left n taken o h = absurd o
 ends_here status.Usage left n taken o h = absurd o

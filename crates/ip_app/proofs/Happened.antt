@@ -1,10 +1,10 @@
 -- What a command met is what happened.
 --     exchange_of      a line's exchange
---     starts_of      the job of the child that was started in it.      hears_of      which child ended that was heard of
---     happens_of      it tells what happened, by what the session asked and counted
+--     started_of, starts_of      the job of the child that was started in it.      none_started_of      none was.      hears_of      which child ended that was heard of
+--     happens_of      it tells what happened, by what the session asked and counted.      cut_of      so does one that was cut short
 --     later_in      what the spawner counted meanwhile.      later_gone      and while a child was let go
---     happen_more, spawned_more      of one exchange more
-use Rattle.std.proofs.Common.{◌≡◌, ◌≢◌, inl, inr, ℕ, ◌+◌, ◌-◌, ◌^◌, ◌≤◌, Bool, true, false, List, [], ◌∷◌, ◌++◌, refl, sym, ap, ap₂, ◌∙◌, subst, arith, Option, None, Some, Ok}
+--     happen_more, spawned_more      of one exchange more.      phase_all      the phase behind several
+use Rattle.std.proofs.Common.{◌≡◌, ◌≢◌, inl, inr, ℕ, ◌+◌, ◌-◌, ◌^◌, ◌≤◌, Bool, true, false, List, [], ◌∷◌, ◌++◌, refl, sym, ap, ap₂, ◌∙◌, subst, arith, Option, None, Some, Ok, Err}
 use Rattle.std.specs.Prelude.{◌⊎◌, if◌then◌else◌, IsSomeAnd}
 use Rattle.std.proofs.lemmas.Bool.{cases_lt}
 use Rattle.std.proofs.lemmas.List.{flat_map_more}
@@ -36,7 +36,7 @@ use Rattle.ip_session.specs.Asking.{HasStarted, MayReap, HeardOf, Asked, AskedIn
 use Rattle.ip_session.specs.Session.{IsServing, conditions_with, CountsBy, CountsIn}
 use Rattle.std.specs.Prelude.{Result}
 use Rattle.ip_app.specs.Exchanges.{Exchange, after_all}
-use Rattle.ip_app.specs.Happening.{HappensBy, Happens, AllHappen, started_in, ends_in}
+use Rattle.ip_app.specs.Happening.{HappensBy, Happens, HappensCut, AllHappen, phase_after, started_in, ends_in}
 use Rattle.ip_app.specs.Turns.{turn_counts, SpawnsLater}
 use Rattle.ip_app.proofs.Counting.{risen}
 
@@ -79,6 +79,7 @@ module _ (s s' : Session) (reply : Reply) (difference : Option Difference) (jobs
     running = asked.running;
     not_running = asked.not_running;
     no_wait = asked.no_wait;
+    waited = asked.waited;
     none_reaped = asked.none_reaped;
     heard = λ reaped is. heard_of s.store.held.collection reaped ends p q (asked.heard reaped is);
     unheard = asked.unheard;
@@ -103,6 +104,34 @@ module _ (s s' : Session) (reply : Reply) (difference : Option Difference) (jobs
       (subst (λ (c : TurnCounts). Happens phase (exchange_of read s'.met c later difference jobs ends reply after)) (sym from)
       (subst (λ (c : TurnCounts). Happens phase (exchange_of read s'.met (turn_counts a p) c difference jobs ends reply after)) (sym to) (plainly read asked counts))))
 
+-- ---- a command that was cut short
+
+-- no child was started: whether the line is a command need not be known
+pub none_started_of : (s s' : Session) (line : Bytes) (result : Result Reply SessionEnd) (jobs : List Job) (ends : List Reaped) (before after : SpawnCounts) → AskedIn s s' line result jobs ends before after → ¬ HasStarted result → jobs ≡ []
+none_started_of s s' line result [] ends before after asked unstarted = refl
+none_started_of s s' line result (job ∷ jobs) ends before after asked unstarted = (asked.none (λ command served. (let none = (asked.command command served).none_started unstarted in absurd (cc none)))).0
+
+module _ (s s' : Session) (end : SessionEnd) (difference : Option Difference) (jobs : List Job) (ends : List Reaped) (reply : Reply) (after : State) (a b : Noted) (p q : SpawnCounts) where
+  cut_plainly : (line : Bytes) → AskedIn s s' line (Err end) jobs ends p q → HappensCut (phase_of s.store.held.collection) (exchange_of line s'.met (turn_counts a p) (turn_counts b q) difference jobs ends reply after)
+  cut_plainly line asked = record {
+    none_started = none_started_of s s' line (Err end) jobs ends p q asked (λ has. has);
+    command = λ command served. let by = asked.command command served in record {
+      running = by.running;
+      not_running = by.not_running;
+      no_wait = by.no_wait;
+      none_reaped = by.none_reaped;
+      heard = λ reaped is. heard_of s.store.held.collection reaped ends p q (by.heard reaped is);
+      unheard = by.unheard;
+    };
+  }
+
+  pub cut_of : (line : Bytes) (met : Met) (before later : TurnCounts) → met ≡ s'.met → before ≡ turn_counts a p → later ≡ turn_counts b q → AskedIn s s' line (Err end) jobs ends p q → HappensCut (phase_of s.store.held.collection) (exchange_of line met before later difference jobs ends reply after)
+  cut_of line met before later same_met from to asked =
+      let phase = phase_of s.store.held.collection in
+      subst (λ (m : Met). HappensCut phase (exchange_of line m before later difference jobs ends reply after)) (sym same_met)
+      (subst (λ (c : TurnCounts). HappensCut phase (exchange_of line s'.met c later difference jobs ends reply after)) (sym from)
+      (subst (λ (c : TurnCounts). HappensCut phase (exchange_of line s'.met (turn_counts a p) c difference jobs ends reply after)) (sym to) (cut_plainly line asked)))
+
 -- ---- the child that was started
 
 no_start : (refused : Bool) (at : ℕ) → HasStarted (Ok (if refused then Reply.Memory else Reply.Bad at)) → ⊥
@@ -115,10 +144,14 @@ job_at store slot jobs None h = absurd h
 job_at store slot jobs (Some c) h = (c.job, h.0, h.2.of, h.2.attempt, h.2.end)
 
 -- a line that is no command starts none, by its answer
+pub started_of : (rule : Rule) (s s' : Session) (state after : State) (line : Bytes) (met : Conditions) (reply : Reply) (jobs : List Job) (ends : List Reaped) (p q : SpawnCounts) → AskedIn s s' line (Ok reply) jobs ends p q → LineStep IsLineOf rule state line met reply after → HasStarted (Ok reply)
+    → IsSomeAnd s'.store.held.collection (λ c. (jobs ≡ c.job ∷ []) × (c.exit ≡ None) × IsJobAt s.store.held c.commit s'.store.held.slot c.job)
+started_of rule s s' state after line met reply jobs ends p q asked (inl step) has = (asked.command step.0 step.1).started has
+started_of rule s s' state after line met reply jobs ends p q asked (inr bad) has = absurd (no_start met.told.refused bad.at (subst (λ (r : Reply). HasStarted (Ok r)) bad.reply_is has))
+
 pub starts_of : (rule : Rule) (s s' : Session) (state after : State) (line : Bytes) (met : Conditions) (reply : Reply) (jobs : List Job) (ends : List Reaped) (p q : SpawnCounts) → AskedIn s s' line (Ok reply) jobs ends p q → LineStep IsLineOf rule state line met reply after → HasStarted (Ok reply)
     → (job : Job) × (jobs ≡ job ∷ []) × IsJobOf s'.store.held.slot job × (job.attempt ≡ s.store.held.slot.next_attempt) × (job.end ≡ s'.store.held.slot.end)
-starts_of rule s s' state after line met reply jobs ends p q asked (inl step) has = job_at s.store.held s'.store.held.slot jobs s'.store.held.collection ((asked.command step.0 step.1).started has)
-starts_of rule s s' state after line met reply jobs ends p q asked (inr bad) has = absurd (no_start met.told.refused bad.at (subst (λ (r : Reply). HasStarted (Ok r)) bad.reply_is has))
+starts_of rule s s' state after line met reply jobs ends p q asked step has = job_at s.store.held s'.store.held.slot jobs s'.store.held.collection (started_of rule s s' state after line met reply jobs ends p q asked step has)
 
 -- ---- the child that was heard of
 
@@ -175,6 +208,11 @@ later_gone before after gone = record {
 pub happen_more : (first : State) (xs : List Exchange) (x : Exchange) → AllHappen first.phase xs → Happens (after_all first xs).phase x → AllHappen first.phase (xs ++ x ∷ [])
 happen_more first [] x h now = (now, tt)
 happen_more first (y ∷ xs) x h now = (h.0, happen_more y.after xs x h.1 now)
+
+-- the phase is that of the state
+pub phase_all : (first : State) (xs : List Exchange) → phase_after first.phase xs ≡ (after_all first xs).phase
+phase_all first [] = refl
+phase_all first (x ∷ xs) = phase_all x.after xs
 
 -- what a spawner tells that started and reaped these
 abbrev pub told_with : List spawn.Start → List Reaped → spawn.Told

@@ -3,17 +3,19 @@
 --     same_for      what a child may read of a slot's records.      reads_then      and of the child that is held behind an exchange
 --     texts_same, none_said      what is said of each reply before the next command
 --     watched_more, watched_next      one exchange more.      watched_along      none more.      watched_none      none yet
---     ended_same, ended_cut      what a child may read in the end.      watched_unbegun, watched_all, watched_cut      of a run in which no command was begun, all were answered, or the last was cut off
+--     lent_in      the attempt of a child that is held is lent.      ended_cut      what a child may read in the end.      watched_still      nothing was done.      watched_unbegun, watched_all, watched_cut      of a run in which no command was begun, all were answered, or the last was cut short
+--     started_here, aimed      of the job that was started
 --     watches_along      where a reply is said behind an exchange
 --     heard_by      which collection's child was heard of.      watches_of      what an exchange met of it, by what the session says
-use Rattle.std.proofs.Common.{◌≡◌, ◌≢◌, inl, inr, ℕ, ◌≤◌, ◌++◌, length, Bool, true, List, [], ◌∷◌, refl, sym, ap, ◌∙◌, subst, arith, append_assoc, append-nil, Option, Some, None, Ok}
+use Rattle.std.proofs.Common.{◌≡◌, ◌≢◌, inl, inr, ℕ, ◌≤◌, ◌++◌, length, Bool, true, false, List, [], ◌∷◌, refl, sym, ap, ap₂, ◌∙◌, subst, arith, append_assoc, append-nil, Option, Some, None, Ok}
 use Rattle.std.specs.Prelude.{IfSome, IsSomeAnd}
 use Rattle.std.proofs.lemmas.Bool.{cases_lt}
 use Rattle.ip_ground.specs.declared.names.FileName.{FileName}
 use Rattle.ip_base.specs.declared.exit.Reaped.{Reaped}
-use Rattle.ip_ground.specs.declared.names.FileName.TheVariants.{Mapping, Prefix}
+use Rattle.ip_ground.specs.declared.names.FileName.TheVariants.{Control, Mapping, Prefix}
 use Rattle.ip_ground.specs.Contents.{Content, Image}
-use Rattle.ip_ground.specs.Told.{Told, said, lending, KeepsPast, KeepsFile, KeepsSaid, IsPossible, IsPossibleNow}
+use Rattle.ip_ground.specs.Custody.{lent}
+use Rattle.ip_ground.specs.Told.{Told, said, lending, KeepsPast, KeepsFile, KeepsCustody, KeepsSaid, SyncsOnly, Only, IsPossible, IsPossibleNow}
 use Rattle.ip_ground.proofs.Spans.{said_now}
 use Rattle.ip_spawn.specs.declared.job.Job.{Job}
 use Rattle.ip_spawn.specs.declared.spawner.SpawnCounts.{SpawnCounts}
@@ -29,7 +31,7 @@ use Rattle.ip_spec.specs.Repository.{Repository}
 use Rattle.ip_spec.specs.Script.{LineStep}
 use Rattle.ip_spec.specs.Text.{reply_text}
 use Rattle.ip_spec.specs.TreeAt.{Records}
-use Rattle.ip_spec.specs.View.{View}
+use Rattle.ip_spec.specs.View.{View, no_view}
 use Rattle.ip_image.specs.declared.counts.TurnCounts.{TurnCounts}
 use Rattle.ip_image.specs.declared.slot.Slot.{Slot}
 use Rattle.ip_image.specs.Collection.{IsJudged}
@@ -41,19 +43,25 @@ use Rattle.ip_image.proofs.HeadlineLaws.{one_slot}
 use Rattle.ip_held.specs.declared.collection.Collection.{Collection}
 use Rattle.ip_held.specs.declared.collection.Unswept.{Unswept}
 use Rattle.ip_held.specs.declared.held.Held.{Held}
-use Rattle.ip_held.specs.Clear.{IsClear, IsClearAt, IsClearTo}
-use Rattle.ip_held.specs.Collecting.{phase_of, Collects, IsJobOf, IsPhaseOf}
-use Rattle.ip_held.specs.Held.{IsOf, Holds}
+use Rattle.ip_collects.specs.Finishing.{looked_at}
+use Rattle.ip_collects.specs.Starting.{IsJobAt}
+use Rattle.ip_held.specs.Clear.{IsClear, IsClearAt, IsClearTo, unswept_in}
+use Rattle.ip_held.specs.Collecting.{phase_of, until, Collects, IsJobOf, IsOfChild, IsPhaseOf}
+use Rattle.ip_held.specs.Held.{IsOf, Holds, image_records}
 use Rattle.ip_held.proofs.Recovering.{held_has}
 use Rattle.ip_session.specs.declared.session.Session.{Session}
-use Rattle.ip_session.specs.Asking.{GoesOnBy, HeardOf, AskedIn}
-use Rattle.ip_session.specs.Clearing.{ClearIn}
-use Rattle.ip_session.specs.Session.{conditions_with, state_in, IsWorking, IsJudgedIn, IsSettledIn, KeepsSpaceIn}
+use Rattle.ip_session.specs.Asking.{GoesOnBy, HasStarted, HeardOf, IsSlicedIn, AskedIn}
+use Rattle.ip_session.specs.Clearing.{ClearIn, unswept_behind}
+use Rattle.ip_session.specs.Placing.{PlacedIn}
+use Rattle.ip_session.specs.Session.{conditions_with, state_in, IsWorking, IsViewIn, IsJudgedIn, IsSettledIn, KeepsSpaceIn}
 use Rattle.ip_session.proofs.Changing.{still_space}
 use Rattle.ip_app.specs.Exchanges.{Exchange, after_all, texts_in}
-use Rattle.ip_app.specs.Judged.{IsWatchedTo, WatchedIn, texts_by, says_nothing, Started, last_started, IsSettledAt, IsConcluded, IsJudgedAs, IsServedAs, IsSameFor, ReadsSame, IsHeldIn, Watches, Watched, AllWatched}
+use Rattle.ip_app.specs.Judged.{IsWatchedTo, WatchedIn, texts_by, says_nothing, Started, last_started, IsSettledAt, IsConcluded, IsJudgedAs, IsServedAs, IsSameFor, ReadsSame, IsHeldIn, Point, begun_at, behind_it, point_of, looked_in, IsCheckedTo, IsAimed, Settles, StaysFrom, HearsNone, Watches, Watched, AllWatched}
+use Rattle.ip_app.specs.Places.{StartsAt, HearsAt}
 use Rattle.ip_app.proofs.Cleared.{clear_behind}
 use Rattle.ip_app.proofs.Happened.{exchange_of}
+use Rattle.ip_app.proofs.Looked.{checked_to, looked_on}
+use Rattle.ip_app.proofs.Settling.{settles_none, settles_on, settles_still, stays_behind, stays_first, stays_later}
 use Rattle.ip_app.proofs.KeptSpace.{same_space, space_on, pending_space, stays_space}
 
 -- of what there is, what follows from it
@@ -120,8 +128,8 @@ module _ (a b : Told) (goes : KeepsPast a b) where
   reads_later : (child : Started) (until : ℕ) → until ≤ a.moment → ReadsSame a child until → ReadsSame b child until
   reads_later child until le same t after before image possible = same t after before image (possible_before t image (omega (arith, before, le)) possible)
 
-  watched_later : (old : Told) (text : Bytes) (since : ℕ) (s : State) (last : Option Started) (x : Exchange) (began answered : ℕ) (image behind : Image) → Watched old a text since s last x began answered image behind → Watched old b text since s last x began answered image behind
-  watched_later old text since s last x began answered image behind was =
+  watched_later : (rule : Rule) (old : Told) → (NothingPending old → Settles a b) → (text : Bytes) (since : ℕ) (p q : Point) (x : Exchange) (began answered : ℕ) (image behind : Image) → Watched rule old a text since p q x began answered image behind → Watched rule old b text since p q x began answered image behind
+  watched_later rule old settles text since p q x began answered image behind was =
       let early : began ≤ a.moment = (let le = was.later in let now = was.by_now in omega (arith, le, now)) in
       record {
         over = was.over;
@@ -131,11 +139,26 @@ module _ (a b : Told) (goes : KeepsPast a b) where
         unsaid = goes.said answered was.by_now ∙ was.unsaid;
         possible = possible_later began image early was.possible;
         stands = was.stands;
+        has = was.has;
         left = possible_later answered behind was.by_now was.left;
         stands_behind = was.stands_behind;
-        judged = λ reaped ended. some_more last _ _ (λ child is. judged_later answered behind s.phase was.stands.standing.records child.job reaped x was.by_now is) (was.judged reaped ended);
+        has_behind = was.has_behind;
+        placed = was.placed;
+        unswept = was.unswept;
+        tree = was.tree;
+        seen = was.seen;
+        starts = was.starts;
+        aims = was.aims;
+        hears = was.hears;
+        judged = λ reaped ended. some_more p.last _ _ (λ child is. judged_later answered behind p.state.phase was.stands.standing.records child.job reaped x was.by_now is) (was.judged reaped ended);
+        checked = was.checked;
+        looked = was.looked;
+        lent = λ held. some_more p.last _ _ (λ child is. goes.lending began child.job.attempt early ∙ is) (was.lent held);
+        lent_behind = λ held. some_more q.last _ _ (λ child is. goes.lending answered child.job.attempt was.by_now ∙ is) (was.lent_behind held);
+        swept = λ has. some_more p.last _ _ (λ child is. (is.0, settled_later answered child.job.attempt is.0 was.by_now is.1)) (was.swept has);
+        stays = λ order t low high. stays_later a b goes (settles order) t answered high was.by_now (was.stays order t low high);
         clear = λ clear swept none slot has. clear_behind slot behind (a.lending_at answered) (b.lending_at answered) (λ attempt. goes.lending answered attempt was.by_now) (was.clear clear swept none slot has);
-        reads = λ order held. some_more last _ _ (λ child is. (reads_later child began early is.0, λ none. reads_later child answered was.by_now (is.1 none))) (was.reads order held);
+        reads = λ order held. some_more p.last _ _ (λ child is. (reads_later child began early is.0, λ none. reads_later child answered was.by_now (is.1 none))) (was.reads order held);
       }
 
 -- ---- what a child may read
@@ -157,6 +180,17 @@ Going collection last = IfSome collection (λ c. IsSomeAnd last (λ child. child
 pub none_going : (collection : Option Collection) → collection ≡ None → Going collection None
 none_going collection is = subst (λ (o : Option Collection). Going o None) (sym is) tt
 
+going_more : (answered : ℕ) (image : Image) (jobs : List Job) (last : Option Started) (before now : Option Collection) → Going before last → GoesOnBy jobs before now → Going now (last_started answered image jobs last)
+going_more answered image jobs last before None going goes = tt
+going_more answered image jobs last before (Some c) going (inl started) = subst (λ (js : List Job). IsSomeAnd (last_started answered image js last) (λ child. child.job ≡ c.job)) (sym started) refl
+going_more answered image jobs last before (Some c) going (inr (none, same)) =
+    subst (λ (js : List Job). IsSomeAnd (last_started answered image js last) (λ child. child.job ≡ c.job)) (sym none)
+    (some_by before (λ d. IsSomeAnd last (λ child. child.job ≡ d.job)) (λ d. (c.commit ≡ d.commit) × (c.job ≡ d.job) × (c.exit ≡ None → d.exit ≡ None) × (looked_at d ≤ looked_at c)) _ (λ d started is. some_more last _ _ (λ child e. e ∙ sym is.1) started) going same)
+
+-- what is so of a collection's job is so of that of its child
+of_going : (collection : Option Collection) (last : Option Started) → Going collection last → (P : Job → Type 0) → IsSomeAnd collection (λ c. P c.job) → IsSomeAnd last (λ child. P child.job)
+of_going collection last going P is = some_by collection (λ c. IsSomeAnd last (λ child. child.job ≡ c.job)) (λ c. P c.job) _ (λ c started p. some_more last (λ child. child.job ≡ c.job) (λ child. P child.job) (λ child same. subst P (sym same) p) started) going is
+
 -- of a run so far: a child that is held reads the same up to now
 -- of a child that is held, from when it was started up to now, and now
 abbrev pub ReadsNow : Told → Started → Type 0
@@ -176,12 +210,24 @@ jobs_in store r tables = by store.collection tables.phase
     by None is = tt
     by (Some c) is = is.told
 
+-- its attempt is lent
+pub lent_in : (told : Told) (store : Held) (r : Repository) → Holds store told r → (s : State) → s.phase ≡ phase_of store.collection → IsHeldIn s → IsSomeAnd store.collection (λ c. lending told c.job.attempt ≡ lent)
+lent_in told store r holds s phase held = by store.collection holds.collects (held_some s store.collection phase held)
+  where
+    by : (o : Option Collection) → IfSome o (Collects told store.slot holds.stands.standing.records r) → IsSomeAnd o (λ c. c.exit ≡ None) → IsSomeAnd o (λ c. lending told c.job.attempt ≡ lent)
+    by None collects none = absurd none
+    by (Some c) collects none = subst (IsOfChild told holds.stands.standing.records c) none collects.child
+
+-- of a run so far: what was settled is so still
+abbrev StaysSo : Told → Told → Type 0
+StaysSo old told = NothingPending old → (t : ℕ) → old.moment ≤ t → t ≤ told.moment → StaysFrom told t told.moment
+
 -- ---- one exchange
 
-module _ (a b : Told) (goes : KeepsPast a b) (s : State) (before now : Option Collection) (slot slot' : Slot) (unswept : Unswept) (x : Exchange) (w : Watches a b s before now slot slot' unswept x) (last : Option Started) (going : Going before last) where
+module _ (rule : Rule) (a b : Told) (goes : KeepsPast a b) (s : State) (v view : View) (before now : Option Collection) (slot slot' : Slot) (unswept unswept' : Unswept) (x : Exchange) (w : Watches rule a b s v view before now slot slot' unswept unswept' x) (last : Option Started) (going : Going before last) where
   -- that of the collection
   by_going : (P : Job → Type 0) → IsSomeAnd before (λ c. P c.job) → IsSomeAnd last (λ child. P child.job)
-  by_going P is = some_by before (λ c. IsSomeAnd last (λ child. child.job ≡ c.job)) (λ c. P c.job) _ (λ c started p. some_more last (λ child. child.job ≡ c.job) (λ child. P child.job) (λ child same. subst P (sym same) p) started) going is
+  by_going = of_going before last going
 
   -- and its slot's
   job_there : IsHeldIn s → IsSomeAnd last (λ child. IsJobOf slot child.job)
@@ -240,7 +286,7 @@ module _ (a b : Told) (goes : KeepsPast a b) (s : State) (before now : Option Co
       held_before : (c d : Collection) → before ≡ Some d → d.exit ≡ None → IsHeldIn s
       held_before c d is none = (d.commit, w.phase ∙ (ap phase_of is ∙ ap (Phase.Collecting d.commit) none))
 
-      going_on : (c : Collection) → IsJobOf slot' c.job → c.exit ≡ None → (o : Option Collection) → before ≡ o → IsSomeAnd o (λ d. (c.commit ≡ d.commit) × (c.job ≡ d.job) × (c.exit ≡ None → d.exit ≡ None)) → Found last
+      going_on : (c : Collection) → IsJobOf slot' c.job → c.exit ≡ None → (o : Option Collection) → before ≡ o → IsSomeAnd o (λ d. (c.commit ≡ d.commit) × (c.job ≡ d.job) × (c.exit ≡ None → d.exit ≡ None) × (looked_at d ≤ looked_at c)) → Found last
       going_on c of none None is same = absurd same
       going_on c of none (Some d) is same =
           let there = held_before c d is (same.2 none) in
@@ -253,8 +299,9 @@ module _ (a b : Told) (goes : KeepsPast a b) (s : State) (before now : Option Co
       by (Some c) is none (inr (nothing, same)) of = subst (λ (jobs : List Job). Found (last_started w.answered w.behind jobs last)) (sym nothing) (going_on c of none before refl same)
 
   -- an exchange that began at the moment of which this is told
-  watched_of : (old : Told) (text : Bytes) (since : ℕ) → since ≤ a.moment → said a ≡ text → (NothingPending old → NothingPending a) → (NothingPending old → Reads a s last) → (IsClearAt old → IsClearTo slot unswept a.held (lending a)) → Watched old b text since s last x a.moment w.answered a.held w.behind
-  watched_of old text since over all calm reads cleared = record {
+  watched_of : (old : Told) (text : Bytes) (since : ℕ) → since ≤ a.moment → said a ≡ text → GoesOnBy x.started before now → (NothingPending old → NothingPending a) → StaysSo old a → (NothingPending old → Reads a s last) → (IsClearAt old → IsClearTo slot unswept a.held (lending a))
+      → Watched rule old b text since (point_of s v slot unswept last before) (point_of x.after view slot' unswept' (last_started w.answered w.behind x.started last) now) x a.moment w.answered a.held w.behind
+  watched_of old text since over all goes_on calm stays reads cleared = record {
     over = over;
     later = w.later;
     by_now = w.by_now;
@@ -262,9 +309,24 @@ module _ (a b : Told) (goes : KeepsPast a b) (s : State) (before now : Option Co
     unsaid = w.unsaid ∙ all;
     possible = w.possible;
     stands = w.stands;
+    has = w.has;
     left = w.left;
     stands_behind = w.stands_behind;
+    has_behind = w.has_behind;
+    placed = w.placed;
+    unswept = w.unswept_behind;
+    tree = w.tree;
+    seen = w.seen;
+    starts = w.starts;
+    aims = w.aims;
+    hears = w.hears;
     judged = λ reaped ended. by_going (λ job. IsJudgedAs b w.answered w.behind s.phase w.stands.standing.records job reaped x) (w.judged reaped ended);
+    checked = λ left is. by_going (λ job. IsCheckedTo (until job.end w.stands_behind.standing.records) job (looked_in before) (looked_in now) left) (w.checked left is);
+    looked = w.looked;
+    lent = λ held. by_going (λ job. b.lending_at a.moment job.attempt ≡ lent) (some_more before _ _ (λ c is. goes.lending a.moment c.job.attempt (omega arith) ∙ is) (w.lent held));
+    lent_behind = λ held. of_going now (last_started w.answered w.behind x.started last) (going_more w.answered w.behind x.started last before now going goes_on) (λ job. b.lending_at w.answered job.attempt ≡ lent) (w.lent_behind held);
+    swept = λ has. by_going (λ job. (pair : Image) × IsSettledAt b w.answered job.attempt pair) (w.swept has);
+    stays = λ order t low high. w.stays (calm order) t (λ soon. stays order t low soon) high;
     clear = λ clear swept none u has. subst (λ (t : Slot). IsClear t w.behind (b.lending_at w.answered)) (one_slot slot' u w.behind w.has_behind has) (w.clear (cleared clear) swept none);
     reads = λ order held. some_both last (λ child. IsJobOf slot child.job) (λ child. ReadsNow a child) (λ child. Unit {0}) _
         (λ child of was u. (reads_later a b goes child a.moment (omega arith) was.0, λ none. reads_on (calm order) child of was none)) (job_there held) (reads order held) (some_more last _ _ (λ child was. tt) (reads order held));
@@ -282,32 +344,32 @@ none_said (x ∷ xs) = none_said xs
 
 -- ---- one exchange more
 
-pub watched_more : (says : Reply → Bytes) (old a b : Told) → KeepsPast a b → (text : Bytes) (since : ℕ) (s : State) (last : Option Started) (xs : List Exchange) (end : Option Started) (before now : Option Collection) (slot slot' : Slot) (unswept : Unswept) (x : Exchange) → AllWatched says old a text since s last xs end → since ≤ a.moment → said a ≡ text ++ texts_by says xs
-    → Going before end → (NothingPending old → NothingPending a) → (NothingPending old → Reads a (after_all s xs) end) → (IsClearAt old → IsClearTo slot unswept a.held (lending a)) → (w : Watches a b (after_all s xs) before now slot slot' unswept x) → AllWatched says old b text since s last (xs ++ x ∷ []) (last_started w.answered w.behind x.started end)
-watched_more says old a b goes text since s last [] end before now slot slot' unswept x was over all going calm reads cleared w =
-    let going_last = subst (λ (o : Option Started). Going before o) was going in
-    let reads_last = λ (order : NothingPending old). subst (Reads a s) was (reads order) in
-    (a.moment, w.answered, a.held, w.behind, watched_of a b goes s before now slot slot' unswept x w last going_last old text since over (all ∙ append-nil text) calm reads_last cleared, ap (last_started w.answered w.behind x.started) was)
-watched_more says old a b goes text since s last (y ∷ xs) end before now slot slot' unswept x was over all going calm reads cleared w = (
+pub watched_more : (rule : Rule) (says : Reply → Bytes) (old a b : Told) → KeepsPast a b → (text : Bytes) (since : ℕ) (p : Point) (xs : List Exchange) (s : State) (v view : View) (before now : Option Collection) (slot slot' : Slot) (unswept unswept' : Unswept) (x : Exchange) (last : Option Started)
+    → AllWatched rule says old a text since p xs (point_of s v slot unswept last before) → since ≤ a.moment → said a ≡ text ++ texts_by says xs → Going before last → GoesOnBy x.started before now → (NothingPending old → NothingPending a) → StaysSo old a → (NothingPending old → Reads a s last) → (IsClearAt old → IsClearTo slot unswept a.held (lending a))
+    → (w : Watches rule a b s v view before now slot slot' unswept unswept' x) → AllWatched rule says old b text since p (xs ++ x ∷ []) (point_of x.after view slot' unswept' (last_started w.answered w.behind x.started last) now)
+watched_more rule says old a b goes text since p [] s v view before now slot slot' unswept unswept' x last was over all going goes_on calm stays reads cleared w =
+    let end : Point = point_of x.after view slot' unswept' (last_started w.answered w.behind x.started last) now in
+    subst (λ (q : Point). AllWatched rule says old b text since q (x ∷ []) end) was
+    (a.moment, w.answered, a.held, w.behind, view, slot', unswept', looked_in now, watched_of rule a b goes s v view before now slot slot' unswept unswept' x w last going old text since over (all ∙ append-nil text) goes_on calm stays reads cleared, refl)
+watched_more rule says old a b goes text since p (y ∷ xs) s v view before now slot slot' unswept unswept' x last was over all going goes_on calm stays reads cleared w = (
   was.0,
   was.1,
   was.2,
   was.3,
-  watched_later a b goes old text since s last y was.0 was.1 was.2 was.3 was.4,
-  watched_more says old a b goes (text ++ says y.reply) was.1 y.after (last_started was.1 was.3 y.started last) xs end before now slot slot' unswept x was.5 was.4.by_now (all ∙ sym (append_assoc text (says y.reply) (texts_by says xs))) going calm reads cleared w,
+  was.4,
+  was.5,
+  was.6,
+  was.7,
+  watched_later a b goes rule old (λ order. w.settles (calm order)) text since p (behind_it p y was.1 was.3 was.4 was.5 was.6 was.7) y was.0 was.1 was.2 was.3 was.8,
+  watched_more rule says old a b goes (text ++ says y.reply) was.1 (behind_it p y was.1 was.3 was.4 was.5 was.6 was.7) xs s v view before now slot slot' unswept unswept' x last was.9 was.8.by_now (all ∙ sym (append_assoc text (says y.reply) (texts_by says xs))) going goes_on calm stays reads cleared w,
 )
 
 -- none more, while time goes on
-pub watched_along : (says : Reply → Bytes) (old a b : Told) → KeepsPast a b → (text : Bytes) (since : ℕ) (s : State) (last : Option Started) (xs : List Exchange) (end : Option Started) → AllWatched says old a text since s last xs end → AllWatched says old b text since s last xs end
-watched_along says old a b goes text since s last [] end was = was
-watched_along says old a b goes text since s last (y ∷ xs) end was =
-    (was.0, was.1, was.2, was.3, watched_later a b goes old text since s last y was.0 was.1 was.2 was.3 was.4, watched_along says old a b goes (text ++ says y.reply) was.1 y.after (last_started was.1 was.3 y.started last) xs end was.5)
-
--- nor has it gone on
-pub ended_same : (a b : Told) → KeepsPast a b → b.moment ≡ a.moment → (last : Option Started) (None_heard : Type 0) → IsSomeAnd last (λ child. ReadsNow a child) → IsSomeAnd last (λ child. ReadsSame b child b.moment × (None_heard → ReadsSame b child b.moment))
-ended_same a b goes same last None_heard is = some_more last _ _ (λ child was.
-    let on : ReadsSame b child b.moment = λ t after le image possible. was.0 t after (omega (arith, le, same)) image (possible_before a b goes t image (omega (arith, le, same)) possible) in
-    (on, λ none. on)) is
+pub watched_along : (rule : Rule) (says : Reply → Bytes) (old a b : Told) → KeepsPast a b → (NothingPending old → Settles a b) → (text : Bytes) (since : ℕ) (p : Point) (xs : List Exchange) (end : Point) → AllWatched rule says old a text since p xs end → AllWatched rule says old b text since p xs end
+watched_along rule says old a b goes settles text since p [] end was = was
+watched_along rule says old a b goes settles text since p (y ∷ xs) end was =
+    let q : Point = behind_it p y was.1 was.3 was.4 was.5 was.6 was.7 in
+    (was.0, was.1, was.2, was.3, was.4, was.5, was.6, was.7, watched_later a b goes rule old settles text since p q y was.0 was.1 was.2 was.3 was.8, watched_along rule says old a b goes settles (text ++ says y.reply) was.1 q xs end was.9)
 
 -- the last command was cut short
 pub ended_cut : (a b : Told) (goes : KeepsPast a b) → (s : State) (store : Held) (r : Repository) → Holds store a r → s.phase ≡ phase_of store.collection → (last : Option Started) → Going store.collection last → IsHeldIn s → IsSomeAnd last (λ child. ReadsNow a child)
@@ -325,80 +387,105 @@ ended_cut a b goes s store r holds phase last going held reads None_heard space 
       | inr soon ↦ was.0 t after soon image (possible_before a b goes t image soon possible_then)
     ]
 
-going_more : (answered : ℕ) (image : Image) (jobs : List Job) (last : Option Started) (before now : Option Collection) → Going before last → GoesOnBy jobs before now → Going now (last_started answered image jobs last)
-going_more answered image jobs last before None going goes = tt
-going_more answered image jobs last before (Some c) going (inl started) = subst (λ (js : List Job). IsSomeAnd (last_started answered image js last) (λ child. child.job ≡ c.job)) (sym started) refl
-going_more answered image jobs last before (Some c) going (inr (none, same)) =
-    subst (λ (js : List Job). IsSomeAnd (last_started answered image js last) (λ child. child.job ≡ c.job)) (sym none)
-    (some_by before (λ d. IsSomeAnd last (λ child. child.job ≡ d.job)) (λ d. (c.commit ≡ d.commit) × (c.job ≡ d.job) × (c.exit ≡ None → d.exit ≡ None)) _ (λ d started is. some_more last _ _ (λ child e. e ∙ sym is.1) started) going same)
-
 -- one exchange more of a run
-pub watched_next : (says : Reply → Bytes) (old a b : Told) → KeepsPast old a → KeepsPast a b → (first : State) (xs : List Exchange) (before now : Option Collection) (slot slot' : Slot) (unswept : Unswept) (x : Exchange) → IsWatchedTo says old a first xs before → said a ≡ said old ++ texts_by says xs → (NothingPending old → NothingPending a)
-    → after_all first (xs ++ x ∷ []) ≡ x.after → GoesOnBy x.started before now → (IsClearAt old → IsClearTo slot unswept a.held (lending a)) → Watches a b (after_all first xs) before now slot slot' unswept x → IsWatchedTo says old b first (xs ++ x ∷ []) now
-watched_next says old a b past goes first xs before now slot slot' unswept x was all calm after goes_on cleared w = record {
+pub watched_next : (rule : Rule) (says : Reply → Bytes) (old a b : Told) → KeepsPast old a → KeepsPast a b → (start : Slot) (first : State) (xs : List Exchange) (v view : View) (before now : Option Collection) (slot slot' : Slot) (unswept unswept' : Unswept) (x : Exchange) → IsWatchedTo rule says old a start first xs before slot unswept v → said a ≡ said old ++ texts_by says xs
+    → (NothingPending old → NothingPending a) → after_all first (xs ++ x ∷ []) ≡ x.after → GoesOnBy x.started before now → (IsClearAt old → IsClearTo slot unswept a.held (lending a)) → Watches rule a b (after_all first xs) v view before now slot slot' unswept unswept' x → IsWatchedTo rule says old b start first (xs ++ x ∷ []) now slot' unswept' view
+watched_next rule says old a b past goes start first xs v view before now slot slot' unswept unswept' x was all calm after goes_on cleared w = record {
   last = last_started w.answered w.behind x.started was.last;
-  watched = watched_more says old a b goes (said old) old.moment first None xs was.last before now slot slot' unswept x was.watched past.later all was.going calm was.reads cleared w;
+  watched = subst (λ (t : State). AllWatched rule says old b (said old) old.moment (begun_at start first) (xs ++ x ∷ []) (point_of t view slot' unswept' (last_started w.answered w.behind x.started was.last) now)) (sym after)
+      (watched_more rule says old a b goes (said old) old.moment (begun_at start first) xs (after_all first xs) v view before now slot slot' unswept unswept' x was.last was.watched past.later all was.going goes_on calm was.stays was.reads cleared w);
   going = going_more w.answered w.behind x.started was.last before now was.going goes_on;
-  reads = λ order. subst (λ (t : State). Reads b t (last_started w.answered w.behind x.started was.last)) (sym after) (reads_then a b goes (after_all first xs) before now slot slot' unswept x w was.last was.going goes_on (calm order) (was.reads order));
+  stays = λ order t low high. stays_behind a b goes (w.settles (calm order)) t high (λ soon. was.stays order t low soon);
+  reads = λ order. subst (λ (t : State). Reads b t (last_started w.answered w.behind x.started was.last)) (sym after) (reads_then rule a b goes (after_all first xs) v view before now slot slot' unswept unswept' x w was.last was.going goes_on (calm order) (was.reads order));
+}
+
+-- nothing was done
+pub watched_still : (rule : Rule) (says : Reply → Bytes) (old a b : Told) → KeepsPast a b → b.moment ≡ a.moment → b.held ≡ a.held → (start : Slot) (first : State) (xs : List Exchange) (collection : Option Collection) (slot : Slot) (unswept : Unswept) (v : View) → IsWatchedTo rule says old a start first xs collection slot unswept v → IsWatchedTo rule says old b start first xs collection slot unswept v
+watched_still rule says old a b goes same held start first xs collection slot unswept v w = record {
+  last = w.last;
+  watched = watched_along rule says old a b goes (λ order. settles_still a b same) (said old) old.moment (begun_at start first) xs _ w.watched;
+  going = w.going;
+  stays = λ order t low high. stays_behind a b goes (settles_still a b same) t high (λ soon. w.stays order t low soon);
+  reads = λ order runs. some_more w.last _ _ (λ child was. let early = was.2 in (
+    (λ t after le image possible. was.0 t after (omega (arith, le, same)) image (possible_before a b goes t image (omega (arith, le, same)) possible)),
+    subst (IsSameFor child.job child.image) (sym held) was.1,
+    omega (arith, early, same),
+  )) (w.reads order runs);
 }
 
 -- none yet
-pub watched_none : (says : Reply → Bytes) (old now : Told) (first : State) (collection : Option Collection) → collection ≡ None → first.phase ≡ Phase.Idle → IsWatchedTo says old now first [] collection
-watched_none says old now first collection idle calm = record { last = None; watched = refl; going = none_going collection idle; reads = λ order held. absurd (cc (held.1, calm)) }
+pub watched_none : (rule : Rule) (says : Reply → Bytes) (old now : Told) → SyncsOnly (Only Control) old now → (start : Slot) (first : State) (collection : Option Collection) → collection ≡ None → first.phase ≡ Phase.Idle → (unswept : Unswept) → unswept ≡ unswept_in start → (v : View) → v ≡ no_view → IsWatchedTo rule says old now start first [] collection start unswept v
+watched_none rule says old now only start first collection idle calm unswept carried v none = record {
+  last = None;
+  watched = begun collection idle unswept carried v none;
+  going = none_going collection idle;
+  stays = λ order t low high. stays_behind old now only.changes.goes (settles_none old now only.changes.lending) t high (λ soon. stays_first old t low soon);
+  reads = λ order held. absurd (cc (held.1, calm));
+}
+  where
+    begun : (o : Option Collection) → o ≡ None → (u : Unswept) → u ≡ unswept_in start → (w : View) → w ≡ no_view → point_of first w start u None o ≡ begun_at start first
+    begun (Some c) is u same w seen = absurd (cc is)
+    begun None is u same w seen = ap₂ (λ (t : Unswept) (y : View). point_of first y start t None None) same seen
 
 -- nor ever
-pub watched_unbegun : (says : Reply → Bytes) (is_cut_off is_cut_short : Bool) (old new : Told) (first : State) → first.phase ≡ Phase.Idle → said new ≡ said old → WatchedIn says is_cut_off is_cut_short old new first []
-watched_unbegun says is_cut_off is_cut_short old new first calm quiet = record {
+pub watched_unbegun : (rule : Rule) (says : Reply → Bytes) (is_unsaid is_cut_short : Bool) (old new : Told) (slot : Slot) (first : State) → first.phase ≡ Phase.Idle → said new ≡ said old → HasLive slot new.held → WatchedIn rule says is_unsaid is_cut_short old new slot first []
+watched_unbegun rule says is_unsaid is_cut_short old new slot first calm quiet live = record {
   whole = [];
   cut = [];
   all = refl;
   one = omega arith;
   none = λ _. refl;
-  last = None;
+  end = begun_at slot first;
   watched = refl;
+  live = λ _. live;
   ended = new.moment;
   by_now = omega arith;
-  said_then = quiet ∙ sym (append-nil (said old));
+  said_then = λ _. quiet ∙ sym (append-nil (said old));
+  lent = λ held. absurd (cc (held.1, calm));
   reads = λ order held. absurd (cc (held.1, calm));
 }
 
--- the last command was cut off
-pub watched_cut : (says : Reply → Bytes) (is_cut_off is_cut_short : Bool) → is_cut_off ≡ true → (old mid new : Told) → KeepsPast mid new → (first : State) (xs : List Exchange) (x : Exchange) (store : Held) (r : Repository) → IsWatchedTo says old mid first xs store.collection → said mid ≡ said old ++ texts_by says xs → Holds store mid r → (after_all first xs).phase ≡ phase_of store.collection
-    → (is_cut_short ≡ true → NothingPending old → ((reaped : Reaped) → x.turn.met.child ≢ Child.Ended reaped) → (slot : Slot) → HasLive slot mid.held → KeepsSpace slot mid new) → WatchedIn says is_cut_off is_cut_short old new first (xs ++ x ∷ [])
-watched_cut says is_cut_off is_cut_short cut old mid new goes first xs x store r w all holds phase space = record {
+-- the last command was cut short
+pub watched_cut : (rule : Rule) (says : Reply → Bytes) (is_unsaid is_cut_short : Bool) → is_cut_short ≡ true → (old mid new : Told) → KeepsPast mid new → (start : Slot) (first : State) (xs : List Exchange) (x : Exchange) (store : Held) (r : Repository) (v : View) → IsWatchedTo rule says old mid start first xs store.collection store.slot store.unswept v → said mid ≡ said old ++ texts_by says xs → Holds store mid r
+    → (after_all first xs).phase ≡ phase_of store.collection → (NothingPending old → Settles mid new) → (NothingPending old → ((reaped : Reaped) → x.turn.met.child ≢ Child.Ended reaped) → (slot : Slot) → HasLive slot mid.held → KeepsSpace slot mid new) → WatchedIn rule says is_unsaid is_cut_short old new start first (xs ++ x ∷ [])
+watched_cut rule says is_unsaid is_cut_short cut old mid new goes start first xs x store r v w all holds phase settles space = record {
   whole = xs;
   cut = x ∷ [];
   all = refl;
   one = omega arith;
   none = λ c. absurd (cc (c, cut));
-  last = w.last;
-  watched = watched_along says old mid new goes (said old) old.moment first None xs w.last w.watched;
+  end = point_of (after_all first xs) v store.slot store.unswept w.last store.collection;
+  watched = watched_along rule says old mid new goes settles (said old) old.moment (begun_at start first) xs _ w.watched;
+  live = λ none. absurd (cc none);
   ended = mid.moment;
   by_now = goes.later;
-  said_then = goes.said mid.moment (omega arith) ∙ all;
-  reads = λ order held. ended_cut mid new goes (after_all first xs) store r holds phase w.last w.going held (w.reads order held) _
-      (λ none slot live. elim none [ inl whole ↦ absurd (cc (whole, cut)) | inr short ↦ space short.0 order (λ reaped ended. short.1 x refl reaped ended) slot live ]);
+  said_then = λ _. goes.said mid.moment (omega arith) ∙ all;
+  lent = λ held. of_going store.collection w.last w.going (λ job. new.lending_at mid.moment job.attempt ≡ lent) (some_more store.collection _ _ (λ c is. goes.lending mid.moment c.job.attempt (omega arith) ∙ is) (lent_in mid store r holds (after_all first xs) phase held));
+  reads = λ order held. ended_cut mid new goes (after_all first xs) store r holds phase w.last w.going held (w.reads order held) (HearsNone (x ∷ [])) (λ none slot live. space order (none x refl) slot live);
 }
 
 -- all were answered, and then this was said
-pub watched_all : (says : Reply → Bytes) (is_cut_off is_cut_short : Bool) (old now : Told) (first : State) (xs : List Exchange) (collection : Option Collection) → IsWatchedTo says old now first xs collection → (ended : ℕ) → ended ≤ now.moment → now.said_at ended ≡ said old ++ texts_by says xs → WatchedIn says is_cut_off is_cut_short old now first xs
-watched_all says is_cut_off is_cut_short old now first xs collection w ended le all = record {
+pub watched_all : (rule : Rule) (says : Reply → Bytes) (is_unsaid is_cut_short : Bool) (old now : Told) (start : Slot) (first : State) (xs : List Exchange) (collection : Option Collection) (slot : Slot) (unswept : Unswept) (v : View) → IsWatchedTo rule says old now start first xs collection slot unswept v → HasLive slot now.held → (ended : ℕ) → ended ≤ now.moment
+    → (is_unsaid ≡ false → now.said_at ended ≡ said old ++ texts_by says xs) → (IsHeldIn (after_all first xs) → IsSomeAnd collection (λ c. now.lending_at ended c.job.attempt ≡ lent)) → WatchedIn rule says is_unsaid is_cut_short old now start first xs
+watched_all rule says is_unsaid is_cut_short old now start first xs collection slot unswept v w live ended le all held_then = record {
   whole = xs;
   cut = [];
   all = append-nil xs;
   one = omega arith;
   none = λ _. refl;
-  last = w.last;
+  end = point_of (after_all first xs) v slot unswept w.last collection;
   watched = w.watched;
+  live = λ _. live;
   ended = ended;
   by_now = le;
   said_then = all;
+  lent = λ held. of_going collection w.last w.going (λ job. now.lending_at ended job.attempt ≡ lent) (held_then held);
   reads = λ order held. some_more w.last _ _ (λ child was. ((λ t after early image possible. was.0 t after (omega (arith, early, le)) image possible), λ none. was.0)) (w.reads order held);
 }
 
 -- where a reply, or more, is said behind it
-pub watches_along : (a mid b : Told) → KeepsPast mid b → (s : State) (before now : Option Collection) (slot slot' : Slot) (unswept : Unswept) (x : Exchange) → (NothingPending a → NothingPending mid) → ((file : FileName) → KeepsFile mid b file) → HasLive slot' mid.held → Watches a mid s before now slot slot' unswept x → Watches a b s before now slot slot' unswept x
-watches_along a mid b goes s before now slot slot' unswept x calm stays there w = record {
+pub watches_along : (rule : Rule) (a mid b : Told) → KeepsPast a mid → KeepsPast mid b → ((attempt : ℕ) → KeepsCustody mid b attempt) → (s : State) (v view : View) (before now : Option Collection) (slot slot' : Slot) (unswept unswept' : Unswept) (x : Exchange) → (NothingPending a → NothingPending mid) → ((file : FileName) → KeepsFile mid b file) → HasLive slot' mid.held → Watches rule a mid s v view before now slot slot' unswept unswept' x → Watches rule a b s v view before now slot slot' unswept unswept' x
+watches_along rule a mid b past goes lends s v view before now slot slot' unswept unswept' x calm stays there w = record {
   phase = w.phase;
   phase_behind = w.phase_behind;
   answered = w.answered;
@@ -412,7 +499,21 @@ watches_along a mid b goes s before now slot slot' unswept x calm stays there w 
   left = possible_later mid b goes w.answered w.behind w.by_now w.left;
   stands_behind = w.stands_behind;
   has_behind = w.has_behind;
+  tree = w.tree;
+  seen = w.seen;
+  placed = w.placed;
+  unswept_behind = w.unswept_behind;
+  starts = w.starts;
+  aims = w.aims;
+  hears = w.hears;
   judged = λ reaped ended. some_more before _ _ (λ c is. judged_later mid b goes w.answered w.behind s.phase w.stands.standing.records c.job reaped x w.by_now is) (w.judged reaped ended);
+  checked = w.checked;
+  looked = w.looked;
+  lent = w.lent;
+  lent_behind = λ held. some_more now _ _ (λ c is. goes.lending w.answered c.job.attempt w.by_now ∙ is) (w.lent_behind held);
+  swept = λ has. some_more before _ _ (λ c is. (is.0, settled_later mid b goes w.answered c.job.attempt is.0 w.by_now is.1)) (w.swept has);
+  settles = λ order. settles_on a mid b past goes (w.settles order) (settles_none mid b lends);
+  stays = λ order t before high. stays_later mid b goes (settles_none mid b lends) t w.answered high w.by_now (w.stays order t before high);
   clear = λ cleared swept none. clear_behind slot' w.behind (mid.lending_at w.answered) (b.lending_at w.answered) (λ attempt. goes.lending w.answered attempt w.by_now) (w.clear cleared swept none);
   job = w.job;
   job_behind = w.job_behind;
@@ -438,9 +539,20 @@ heard_by rule s s' state after line difference reply jobs ends p q asked (inr ba
     let none : s'.met.child ≡ Child.NotAsked = ap (λ (m : Met). m.child) bad.unasked in
     absurd (cc (is, none))
 
-module _ (a mid : Told) (s s' : Session) (r : Repository) (v : View) (here : IsWorking a s r v) (line : Bytes) (met : Met) (before behind : TurnCounts) (difference : Option Difference) (jobs : List Job) (ends : List Reaped) (reply : Reply) (after : State) (met_is : met ≡ s'.met) (past : KeepsPast a mid) where
+-- the job that was started is that of the collection
+pub started_here : (store : Held) (slot : Slot) (o : Option Collection) (jobs : List Job) → IsSomeAnd o (λ c. (jobs ≡ c.job ∷ []) × (c.exit ≡ None) × IsJobAt store c.commit slot c.job) → IsSomeAnd o (λ c. jobs ≡ c.job ∷ [])
+started_here store slot o jobs is = some_more o _ _ (λ c all. all.0) is
+
+-- the horizon of the job that was started
+aimed : (told : Told) (slot : Slot) (records : Records) (r : Repository) (o : Option Collection) (jobs : List Job) → IfSome o (Collects told slot records r) → IsSomeAnd o (λ c. jobs ≡ c.job ∷ []) → (job : Job) → jobs ≡ job ∷ [] → IsAimed records (phase_of o) job
+aimed told slot records r None jobs collects is job same = absurd is
+aimed told slot records r (Some c) jobs collects is job same =
+    let one : c.job ≡ job = cc (is, same) in
+    subst (IsAimed records (phase_of (Some c))) one (record { commit = collects.collectable.commit; here = collects.collectable.here; number = ap Some (sym collects.collectable.number) })
+
+module _ (a mid : Told) (s s' : Session) (r : Repository) (v : View) (here : IsWorking a s r v) (line : Bytes) (met : Met) (before behind : TurnCounts) (difference : Option Difference) (jobs : List Job) (ends : List Reaped) (reply : Reply) (q : Repository) (u : View) (working : IsWorking mid s' q u) (met_is : met ≡ s'.met) (past : KeepsPast a mid) where
   abbrev x : Exchange
-  x = exchange_of line met before behind difference jobs ends reply after
+  x = exchange_of line met before behind difference jobs ends reply (state_in s' q u)
 
   abbrev records : Records
   records = here.holds.stands.standing.records
@@ -449,14 +561,14 @@ module _ (a mid : Told) (s s' : Session) (r : Repository) (v : View) (here : IsW
   Concludes = (reaped : Reaped) → s'.met.child ≡ Child.Ended reaped → IsConcluded reaped (conditions_with s'.met difference) reply
 
   -- what it wrote is served
-  served_of : (c : Collection) → s.store.held.collection ≡ Some c → (reaped : Reaped) → s'.met.child ≡ Child.Ended reaped → (floor left : ℕ) → reply ≡ Reply.Collected floor left → IsSettledIn mid s s' reply → (q : Repository) (w : View) (behind : IsWorking mid s' q w) → IsServedAs mid mid.moment mid.held c.job
-  served_of c runs reaped heard floor left is settled q w behind =
+  served_of : (c : Collection) → s.store.held.collection ≡ Some c → (reaped : Reaped) → s'.met.child ≡ Child.Ended reaped → (floor left : ℕ) → reply ≡ Reply.Collected floor left → IsSettledIn mid s s' reply → IsServedAs mid mid.moment mid.held c.job
+  served_of c runs reaped heard floor left is settled =
       let H = settled c reaped runs heard in
       let serves = H.serves floor left is in
       let (floor_is, live, horizon) = H.swapped floor left is in
       let slot = s'.store.held.slot in
-      let A = behind.holds.stands.standing in
-      let there : HasLive slot mid.held = held_has s'.store.held q mid behind.holds in
+      let A = working.holds.stands.standing in
+      let there : HasLive slot mid.held = held_has s'.store.held q mid working.holds in
       let same : A.slot ≡ slot = one_slot A.slot slot mid.held (record { control = A.control; index = A.index; held = A.held; live = A.live }) there in
       let G = subst (λ (t : Slot). Generation mid.held (layout_of t) A.rows) same A.generation in
       let drawn = (subst (IsPhaseOf s.store.held.slot r) runs here.holds.tables.phase).told.valid.attempt in
@@ -476,8 +588,8 @@ module _ (a mid : Told) (s s' : Session) (r : Repository) (v : View) (here : IsW
         mapping_is = record { end = M.end; file = sym (subst (λ (n : ℕ). mid.held (Mapping n) ≡ serves.pair (Mapping n)) (sym live) serves.mapping) ∙ M.file; count = M.count; numbers = M.numbers; above = M.above; inside = M.inside };
       }
 
-  judged_of : (c : Collection) → s.store.held.collection ≡ Some c → (reaped : Reaped) → met.child ≡ Child.Ended reaped → reaped.attempt ≡ c.job.attempt → Concludes → IsJudgedIn a mid s s' r v difference → IsSettledIn mid s s' reply → (q : Repository) (w : View) → IsWorking mid s' q w → IsJudgedAs mid mid.moment mid.held (phase_of (Some c)) records c.job reaped x
-  judged_of c runs reaped ended attempt concluded judged settled q w behind =
+  judged_of : (c : Collection) → s.store.held.collection ≡ Some c → (reaped : Reaped) → met.child ≡ Child.Ended reaped → reaped.attempt ≡ c.job.attempt → Concludes → IsJudgedIn a mid s s' r v difference → IsSettledIn mid s s' reply → IsJudgedAs mid mid.moment mid.held (phase_of (Some c)) records c.job reaped x
+  judged_of c runs reaped ended attempt concluded judged settled =
       let collects : Collects a s.store.held.slot records r c = subst (λ (o : Option Collection). IfSome o (Collects a s.store.held.slot records r)) runs here.holds.collects in
       let heard : s'.met.child ≡ Child.Ended reaped = ap (λ (m : Met). m.child) (sym met_is) ∙ ended in
       record {
@@ -488,17 +600,19 @@ module _ (a mid : Told) (s s' : Session) (r : Repository) (v : View) (here : IsW
         number = ap Some (sym collects.collectable.number);
         judged = λ pair is. subst (λ (m : Met). IsJudged records c.job.horizon c.job.end c.job.attempt pair (conditions_with m difference)) (sym met_is) (judged here c reaped runs heard pair is);
         settled = (settled c reaped runs heard).settled;
-        served = λ floor left is. served_of c runs reaped heard floor left is settled q w behind;
+        served = λ floor left is. served_of c runs reaped heard floor left is settled;
       }
 
   abbrev Heard : Type 0
   Heard = (reaped : Reaped) → s'.met.child ≡ Child.Ended reaped → IsSomeAnd s.store.held.collection (λ c. reaped.attempt ≡ c.job.attempt)
 
-  pub watches_of : KeepsSaid a mid → IsPossibleNow a → IsPossibleNow mid → Heard → Concludes → (IsHeldIn after → (reaped : Reaped) → s'.met.child ≢ Child.Ended reaped)
-      → IsJudgedIn a mid s s' r v difference → IsSettledIn mid s s' reply → ClearIn a mid s s' line reply → KeepsSpaceIn a mid s' → (NothingPending a → NothingPending mid) → (q : Repository) (u : View) → after ≡ state_in s' q u → IsWorking mid s' q u → Watches a mid (state_in s r v) s.store.held.collection s'.store.held.collection s.store.held.slot s'.store.held.slot s.store.held.unswept x
-  watches_of still possible possible_mid heard concluded unheard judged settled clear space calm q u after_is behind = record {
+  pub watches_of : (rule : Rule) → KeepsSaid a mid → IsPossibleNow a → IsPossibleNow mid → Heard → Concludes → (IsHeldIn (state_in s' q u) → (reaped : Reaped) → s'.met.child ≢ Child.Ended reaped)
+      → IsJudgedIn a mid s s' r v difference → IsSettledIn mid s s' reply → ClearIn a mid s s' line reply → KeepsSpaceIn a mid s' → (NothingPending a → NothingPending mid) → (NothingPending a → Settles a mid) → IsViewIn r v line reply u → PlacedIn rule (image_records here.holds) s.store.held.slot s.store.held.unswept s'.store.held.slot (state_in s r v) v line reply
+      → StartsAt s.store.held.slot s'.store.held.slot x → (HasStarted (Ok reply) → IsSomeAnd s'.store.held.collection (λ c. jobs ≡ c.job ∷ [])) → (¬ HasStarted (Ok reply) → jobs ≡ []) → HearsAt s.store.held.slot x → GoesOnBy jobs s.store.held.collection s'.store.held.collection → IsSlicedIn s.store.held.collection s'.store.held.collection reply
+      → Watches rule a mid (state_in s r v) v u s.store.held.collection s'.store.held.collection s.store.held.slot s'.store.held.slot s.store.held.unswept s'.store.held.unswept x
+  watches_of rule still possible possible_mid heard concluded unheard judged settled clear space calm settles seen placed starts started unstarted hears goes_on sliced = record {
     phase = refl;
-    phase_behind = ap (λ (t : State). t.phase) after_is;
+    phase_behind = refl;
     answered = mid.moment;
     later = past.later;
     by_now = omega arith;
@@ -508,12 +622,26 @@ module _ (a mid : Told) (s s' : Session) (r : Repository) (v : View) (here : IsW
     has = held_has s.store.held r a here.holds;
     behind = mid.held;
     left = λ file. possible_mid file;
-    stands_behind = subst (λ (t : State). StandsFor mid.held t.repository) (sym after_is) behind.holds.stands;
-    has_behind = held_has s'.store.held q mid behind.holds;
+    stands_behind = working.holds.stands;
+    has_behind = held_has s'.store.held q mid working.holds;
+    tree = refl;
+    seen = seen;
+    placed = placed;
+    unswept_behind = (clear.unswept, λ swept. clear.behind swept ∙ ap (λ (m : Met). unswept_behind m.left s'.store.held.slot s.store.held.unswept) (sym met_is));
+    starts = starts;
+    aims = λ has job is. aimed mid s'.store.held.slot working.holds.stands.standing.records q s'.store.held.collection jobs working.holds.collects (started has) job is;
+    hears = hears;
     judged = λ reaped ended. by s.store.held.collection refl reaped ended (heard reaped (ap (λ (m : Met). m.child) (sym met_is) ∙ ended));
+    checked = λ left is. checked_to mid s'.store.held q working.holds s.store.held.collection jobs left goes_on (unstarted (λ has. subst (λ (answer : Reply). HasStarted (Ok answer)) is has)) (subst (IsSlicedIn s.store.held.collection s'.store.held.collection) is sliced);
+    looked = λ commit exit runs none. looked_on jobs s.store.held.collection s'.store.held.collection commit exit goes_on runs none;
+    lent = λ held. lent_in a s.store.held r here.holds (state_in s r v) refl held;
+    lent_behind = λ held. lent_in mid s'.store.held q working.holds (state_in s' q u) refl held;
+    swept = λ swept. clear.settled swept;
+    settles = settles;
+    stays = λ order t before high. stays_behind a mid past (settles order) t high before;
     clear = λ cleared swept none. clear.all swept (ap (λ (m : Met). m.left) (sym met_is) ∙ none) cleared;
     job = jobs_in s.store.held r here.holds.tables;
-    job_behind = jobs_in s'.store.held q behind.holds.tables;
+    job_behind = jobs_in s'.store.held q working.holds.tables;
     space = λ order none t late le image possible_then. space order (λ reaped ended. none reaped (ap (λ (m : Met). m.child) met_is ∙ ended)) s.store.held.slot (held_has s.store.held r a here.holds) t late le image possible_then;
     saying = λ order t late le image possible_then. absurd (omega (arith, late, le));
     held = λ order. same_space s'.store.held.slot mid.held;
@@ -524,4 +652,4 @@ module _ (a mid : Told) (s s' : Session) (r : Repository) (v : View) (here : IsW
       by None none reaped ended is = absurd (subst (λ (o : Option Collection). IsSomeAnd o (λ c. reaped.attempt ≡ c.job.attempt)) none is)
       by (Some c) runs reaped ended is =
           let attempt = subst (λ (o : Option Collection). IsSomeAnd o (λ d. reaped.attempt ≡ d.job.attempt)) runs is in
-          subst (λ (o : Option Collection). IsSomeAnd o (λ d. IsJudgedAs mid mid.moment mid.held (phase_of o) records d.job reaped x)) (sym runs) (judged_of c runs reaped ended attempt concluded judged settled q u behind)
+          subst (λ (o : Option Collection). IsSomeAnd o (λ d. IsJudgedAs mid mid.moment mid.held (phase_of o) records d.job reaped x)) (sym runs) (judged_of c runs reaped ended attempt concluded judged settled)

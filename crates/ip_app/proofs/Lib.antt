@@ -1,6 +1,7 @@
 pub mod LineLemmas
 pub mod LivePair
 pub mod SameFiles
+mod Settling
 pub mod Moments
 pub mod Counting
 pub mod Happened
@@ -12,8 +13,10 @@ pub mod RuleCases
 pub mod RanOn
 pub mod RunLemmas
 pub mod TurnLemmas
+pub mod Unwritten
 pub mod SaidLemmas
 pub mod LoadMoments
+mod Looked
 pub mod LoadLemmas
 pub mod SummaryLemmas
 pub mod WorkLemmas

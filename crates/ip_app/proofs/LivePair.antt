@@ -1,6 +1,6 @@
 -- Whether a child may change the live pair.
 --     owns_pending      where nothing is pending none may
---     live_before, owns_on      while no file changes, though it may be synced, the same slot is live, and if none may, none may still
+--     live_before, live_on, owns_on      while no file changes, though it may be synced, the same slot is live, and if none may, none may still
 --     live_in      in an image that stands some slot is live
 --     known_or_not      whether the ground tells its content and none may, where some slot is live if that is so.      with_flag      and a flag is set too
 use Rattle.std.proofs.Common.{◌≡◌, ◌≢◌, ◌⊎◌, inl, inr, ℕ, refl, sym, ap, subst, ◌∙◌, Bool, true, false, Option, Some, None, IsTrue, take, drop, arith}
@@ -36,6 +36,9 @@ owns_pending told pending = λ s has live.
 module _ (a b : Told) (files : (file : FileName) → SyncsAtMost a b file) where
   pub live_before : (s : Slot) → HasLive s b.held → HasLive s a.held
   live_before s has = record { control = has.control; index = has.index; held = sym ((files Control).held (λ foreign. foreign)) ∙ has.held; live = has.live }
+
+  pub live_on : (s : Slot) → HasLive s a.held → HasLive s b.held
+  live_on s has = record { control = has.control; index = has.index; held = (files Control).held (λ foreign. foreign) ∙ has.held; live = has.live }
 
   pub owns_on : OwnsLive a → OwnsLive b
   owns_on owns = λ s has. pair_stays s a b (λ file. (files file).own) (owns s (live_before s has))

@@ -22,12 +22,13 @@ use Rattle.ip_spec.specs.Merge.{Rule}
 use Rattle.ip_spec.specs.Load.{load_line, lines_from}
 use Rattle.ip_spec.specs.Load.{summary as summary_of}
 use Rattle.ip_spec.specs.View.{View, no_view}
+use Rattle.ip_image.specs.declared.slot.Slot.{Slot}
 use Rattle.ip_spec.specs.Repository.{Repository, no_repository}
-use Rattle.ip_spec.specs.Machine.{State, opened}
+use Rattle.ip_spec.specs.Machine.{State, Phase, opened}
 use Rattle.ip_spec.specs.Text.{reply_text}
 use Rattle.ip_spec.specs.declared.reply.Reply.{Reply}
 use Rattle.ip_merge.specs.Rules.{IsDecisive}
-use Rattle.ip_held.specs.Clear.{IsCleared, IsClearAt}
+use Rattle.ip_held.specs.Clear.{IsCleared, IsClearAt, unswept_in}
 use Rattle.ip_opens.specs.Opening.{RecoversOnceOpen}
 use Rattle.ip_held.proofs.Recovering.{held_has}
 use Rattle.ip_session.specs.declared.session.Session.{Session}
@@ -41,18 +42,19 @@ use Rattle.ip_app.specs.Exchanging.{is_cut_short, CountsServing, Exchanged, Repl
 use Rattle.ip_app.specs.Loading.{load_script, replies_in, load_text, LoadHeadline, LoadRow, Loads, LoadsWhereAllIsWell}
 use Rattle.ip_app.specs.Loaded.{Loaded, Summed, FinishesLoad}
 use Rattle.ip_app.specs.Outside.{Outside, Tells, Knows, GoesOn, IsBound, IsUnasked}
-use Rattle.ip_app.specs.Judged.{Watches, IsWatchedTo, texts_by, says_nothing}
-use Rattle.ip_app.specs.Places.{PlacesIn}
+use Rattle.ip_app.specs.Happening.{HappensCut}
+use Rattle.ip_app.specs.Judged.{IsHeldIn, Watches, IsWatchedTo, WatchedIn, texts_by, says_nothing}
 use Rattle.ip_app.specs.Turns.{turn_counts}
 use Rattle.ip_app.specs.Run.{CouldNotOpen, IsUntouched, Begins, IsBehindOpening, AsksChildren}
 use Rattle.ip_app.specs.Serving.{CountsOf}
 use Rattle.ip_app.proofs.Cleared.{clear_synced, cleared_at}
-use Rattle.ip_app.proofs.Counting.{removals_bound, removals_on, serving_of, serving_on, bound_to, bound_counts, IsNoDamage}
+use Rattle.ip_app.proofs.Counting.{removals_bound, removals_on, serving_of, serving_on, bound_to, bound_counts, cut_counts, IsNoDamage, no_damage}
 use Rattle.ip_app.proofs.Judging.{none_said, watched_none, watched_unbegun, watched_next, watched_cut, watched_all}
-use Rattle.ip_app.proofs.LivePair.{owns_pending}
+use Rattle.ip_app.proofs.Unwritten.{none_on, not_none, only_one, damage_short}
+use Rattle.ip_app.proofs.LivePair.{live_on, owns_pending}
 use Rattle.ip_app.proofs.Moments.{headline_none}
 use Rattle.ip_app.proofs.LoadMoments.{quiet_first, quiet_more, headline_quiet, headline_said}
-use Rattle.ip_app.proofs.RanOn.{append_nil, after_more, ran_more, ran_first, trace_more, let_go_as, LetsGoAs, goes_on_gone, notes_of, asks_of, notes_none, asks_none, happen_all, happen_cut, placed_all, placed_cut, keeps_unchanged}
+use Rattle.ip_app.proofs.RanOn.{append_nil, after_more, ran_more, ran_first, trace_more, told_before, let_go_as, LetsGoAs, goes_on_gone, notes_of, asks_of, notes_none, asks_none, happen_all, happen_cut, live_at, keeps_unchanged}
 use Rattle.ip_app.proofs.RunLemmas.{stands_open}
 use Rattle.ip_app.proofs.SameFiles.{stands_after}
 
@@ -66,19 +68,19 @@ drop_front (x ∷ xs) ys = drop_front xs ys
 
 -- ---- line by line
 
-pub loaded_first : (rule : Rule) (decisive : Bool) → (IsTrue decisive → IsDecisive rule) → (seed : ℕ) (old now : Outside) (counts : TurnCounts) (s : Session) (summary : Summary) (r : Repository) (v : View) → v ≡ no_view → (known : (b : Bool) × (Knows decisive old → IsTrue b) × (IsTrue b → Knows decisive old)) → IsServing s → state_in s r v ≡ opened r
+pub loaded_first : (rule : Rule) (decisive : Bool) → (IsTrue decisive → IsDecisive rule) → (seed : ℕ) (old now : Outside) (counts : TurnCounts) (s : Session) (summary : Summary) (r : Repository) (v : View) → v ≡ no_view → s.store.held.unswept ≡ unswept_in s.store.held.slot → (known : (b : Bool) × (Knows decisive old → IsTrue b) × (IsTrue b → Knows decisive old)) → IsServing s → state_in s r v ≡ opened r
     → (Tells old → IsWorking now.told s r v) → (Tells old → IsClearAt old.told → IsCleared s.store.held now.told) → (Tells old → StandsFor old.told.held r) → (opening : IsTrue old.ground_tells → RecoversOnceOpen old.told now.told) → ((tells : Tells old) → (opening tells.0).since ≤ now.told.moment)
     → counts ≡ turn_counts old.counts old.spawns → now.counts ≡ bound_to old.dir old.counts → IsUnasked old now → s.store.held.collection ≡ None → old.held ≡ None → now.read_faults ≡ old.read_faults → GoesOn old now → (IsTrue old.ground_tells → SyncsOnly (Only Control) old.told now.told) → now.turns ≡ old.turns → now.left ≡ old.left → Tallies summary []
     → Loaded rule decisive seed seed 0 old now counts s summary
-loaded_first rule decisive by_rule seed old now counts s summary r v none_known known serving begun working cleared began opening over counted no_fault unasked idle alone reads g f turns left tallies = record {
+loaded_first rule decisive by_rule seed old now counts s summary r v none_known carried known serving begun working cleared began opening over counted no_fault unasked idle alone reads g f turns left tallies = record {
   known = known.0;
   exchanges = [];
   first = r;
   repository = r;
   view = v;
   slot = s.store.held.slot;
-  ran = ran_first rule decisive by_rule old now counts s r v none_known known serving begun working cleared began opening counted no_fault unasked idle alone reads g f turns;
-  watched = λ is. watched_none says_nothing old.told now.told (opened r) s.store.held.collection idle refl;
+  ran = ran_first rule decisive by_rule old now counts s r v known serving begun working cleared began opening counted no_fault unasked idle alone reads g f turns;
+  watched = λ is. watched_none rule says_nothing old.told now.told (f (known.2 is).0.0) s.store.held.slot (opened r) s.store.held.collection idle refl s.store.held.unswept carried v none_known;
   no_fault = removals_bound old.counts now.counts (bound_counts old.dir old.counts now.counts as_nothing no_fault);
   lines_then = λ more. let n : 0 + more ≡ more = omega arith in ap (lines_from seed 1) n;
   count = refl;
@@ -103,9 +105,9 @@ module _ (rule : Rule) (decisive : Bool) (seed state number : ℕ) (old mid : Ou
   silent : IsTrue h.known → said mid.told ≡ said old.told ++ texts_by says_nothing h.exchanges
   silent is = h.said is ∙ (sym (append_nil (said old.told)) ∙ ap (λ (t : Bytes). said old.told ++ t) (sym (none_said h.exchanges)))
 
-  watched_on : (new : Outside) (counts' : TurnCounts) (s' : Session) (after : Repository) (view : View) (x : Exchange) → Exchanged rule h.known mid new counts counts' s s' h.repository h.view x after view → IsTrue h.known → IsWatchedTo says_nothing old.told new.told (opened h.first) (h.exchanges ++ x ∷ []) s'.store.held.collection
-  watched_on new counts' s' after view x t is = watched_next says_nothing old.told mid.told new.told (h.ran.trace.files is).goes (t.begun.files is).goes (opened h.first) h.exchanges s.store.held.collection s'.store.held.collection s.store.held.slot s'.store.held.slot s.store.held.unswept x (h.watched is) (silent is) (h.ran.nothing_pending is) (after_more (opened h.first) h.exchanges x) t.goes_on_by (h.ran.clear is)
-      (subst (λ (state : State). Watches mid.told new.told state s.store.held.collection s'.store.held.collection s.store.held.slot s'.store.held.slot s.store.held.unswept x) (h.ran.now_at is) (t.watches is))
+  watched_on : (new : Outside) (counts' : TurnCounts) (s' : Session) (after : Repository) (view : View) (x : Exchange) → Exchanged rule h.known mid new counts counts' s s' h.repository h.view x after view → IsTrue h.known → IsWatchedTo rule says_nothing old.told new.told h.slot (opened h.first) (h.exchanges ++ x ∷ []) s'.store.held.collection s'.store.held.slot s'.store.held.unswept view
+  watched_on new counts' s' after view x t is = watched_next rule says_nothing old.told mid.told new.told (h.ran.trace.files is).goes (t.begun.files is).goes h.slot (opened h.first) h.exchanges h.view view s.store.held.collection s'.store.held.collection s.store.held.slot s'.store.held.slot s.store.held.unswept s'.store.held.unswept x (h.watched is) (silent is) (h.ran.nothing_pending is) (after_more (opened h.first) h.exchanges x) t.goes_on_by (h.ran.clear is)
+      (subst (λ (state : State). Watches rule mid.told new.told state h.view view s.store.held.collection s'.store.held.collection s.store.held.slot s'.store.held.slot s.store.held.unswept s'.store.held.unswept x) (h.ran.now_at is) (t.watches is))
 
   pub loaded_more : (new : Outside) (text : Bytes) (counts' : TurnCounts) (s' : Session) (summary' : Summary) (state' : ℕ) → (t : Replied rule h.known mid new (load_line state (number + 1)).0 text counts counts' s s' h.repository h.view) → new.left ≡ mid.left → state' ≡ (load_line state (number + 1)).1
       → ((reply : Reply) → text ≡ reply_text reply → Tallies summary' (replies_in h.exchanges ++ reply ∷ [])) → Loaded rule decisive seed state' (number + 1) old new counts' s' summary'
@@ -173,16 +175,17 @@ module _ (rule : Rule) (decisive : Bool) (seed state number : ℕ) (old mid : Ou
         exchanges = xs;
         first = first;
         run = record {
-          goes_on = goes_on_gone old new spawned held spawns gone.later trace.goes_on;
+          goes_on = goes_on_gone old new spawned held spawns gone.gone trace.goes_on;
           left = left ∙ h.left;
           begins = begins xs;
           first_is = refl;
           replies = record {
+            some = λ damage none. absurd (not_none h.exchanges x none);
             begun = (rest, script ∙ (sym (append_assoc (lines_in h.exchanges) (line ∷ []) rest) ∙ ap (λ (front : List Bytes). front ++ rest) (ap (λ (l : Bytes). lines_in h.exchanges ++ l ∷ []) (sym u.line_is) ∙ sym (map-append (λ x. x.line) h.exchanges (x ∷ [])))), λ behind whole. absurd (cc (cut, whole)));
             run = λ b. trace.run (h.ran.trace.known_so b);
-            placed = λ b slot live. subst (λ (cut_off : Bool). PlacesIn rule cut_off slot first xs) (sym cut) (placed_cut rule decisive h.known h.exchanges h.first h.repository h.view h.slot old mid counts s x h.ran b slot live);
-            watched = λ b. let is = h.ran.trace.known_so b in watched_cut says_nothing (is_cut_short s') (is_cut_short s') cut old.told mid.told new.told (u.begun.files is).goes first h.exchanges x s.store.held h.repository (h.watched is) (silent is) (h.ran.working is).holds (sym h.ran.phase)
-                (λ short order none slot live. u.space is (h.ran.nothing_pending is order) none slot live);
+            watched = λ b start live. let is = h.ran.trace.known_so b in subst (λ (t : Slot). WatchedIn rule says_nothing false (is_cut_short s') old.told new.told t first xs) (live_at rule decisive h.known h.exchanges h.first h.repository h.view h.slot old mid counts s h.ran is start live)
+                (watched_cut rule says_nothing false (is_cut_short s') cut old.told mid.told new.told (u.begun.files is).goes h.slot first h.exchanges x s.store.held h.repository h.view (h.watched is) (silent is) (h.ran.working is).holds (sym h.ran.phase)
+                (λ order. u.settles is (h.ran.nothing_pending is order)) (λ order none slot live. u.space is (h.ran.nothing_pending is order) none slot live));
             said = λ b. let is = h.ran.trace.known_so b in record {
               part = [];
               rest = load_text count xs;
@@ -202,28 +205,30 @@ module _ (rule : Rule) (decisive : Bool) (seed state number : ℕ) (old mid : Ou
             clear = λ b whole. absurd (cc (cut, whole));
             files = λ b. trace.files (h.ran.trace.known_so b);
           };
-          notes = notes_of rule decisive h.known xs h.first s' old new counts' trace (serving_on s' old.counts mid.counts new.counts h.no_fault u.counted) spawned held spawns gone;
+          notes = notes_of rule decisive h.known xs h.first s' old new counts' trace (serving_on s' old.counts mid.counts new.counts h.no_fault (cut_counts s' mid.counts new.counts u.counted)) spawned held spawns gone;
           row = row spawned held spawns;
+          unopened = λ is none. absurd (not_none h.exchanges x none);
+          unwritten = λ told damage few. none_on old.told mid.told new.told (h.ran.unwritten told (only_one h.exchanges x few)) (u.unwritten (told_before _ _ h.ran.trace.goes_on.ground_tells told) damage);
         };
-        children = subst (λ (cut_off : Bool). AsksChildren cut_off old (let_go_as new spawned held spawns) xs) (sym cut) (asks_of rule decisive h.known xs h.first true old new counts' trace (happen_cut h.exchanges x h.ran.phases) spawned held spawns gone);
+        children = subst (λ (cut_off : Bool). AsksChildren cut_off old (let_go_as new spawned held spawns) xs) (sym cut) (asks_of rule decisive h.known xs h.first true old new counts' trace (happen_cut h.first h.exchanges x h.ran.phases (subst (λ (phase : Phase). HappensCut phase x) h.ran.phase u.happens)) spawned held spawns gone);
       }
 
-  pub loads_cut : (count : ℕ) (s' : Status) (new : Outside) (line : Bytes) (counts' : TurnCounts) → CutsShort rule s' h.known mid new line counts counts' (state_in s h.repository h.view) → new.left ≡ mid.left → (rest : List Bytes) → load_script seed count ≡ lines_in h.exchanges ++ line ∷ rest
+  pub loads_cut : (IsTrue decisive → IsDecisive rule) → (count : ℕ) (s' : Status) (new : Outside) (line : Bytes) (counts' : TurnCounts) → CutsShort rule s' h.known mid new line counts counts' (state_in s h.repository h.view) → new.left ≡ mid.left → (rest : List Bytes) → load_script seed count ≡ lines_in h.exchanges ++ line ∷ rest
       → (spawned : spawn.Told) (held : Option ℕ) (spawns : SpawnCounts) → LetsGoAs new spawned held spawns → Loads rule decisive seed count old (let_go_as new spawned held spawns) s'
-  loads_cut count status.GroundFault new line counts' u = cut_by count status.GroundFault new line counts' refl (λ xs. inr h.ran.trace.began) (λ spawned held spawns. tt) ((λ e. absurd (cc e)), (λ e. absurd (cc e))) u
-  loads_cut count (status.DamagedRecord at) new line counts' u = cut_by count (status.DamagedRecord at) new line counts' refl (λ xs. h.ran.trace.began) (λ spawned held spawns b. u.1 (h.ran.trace.known_so b)) ((λ e. absurd (cc e)), (λ e. absurd (cc e))) u.0
-  loads_cut count (status.DamagedName at want got) new line counts' u = cut_by count (status.DamagedName at want got) new line counts' refl (λ xs. h.ran.trace.began) (λ spawned held spawns b. u.1 (h.ran.trace.known_so b)) ((λ e. absurd (cc e)), (λ e. absurd (cc e))) u.0
-  loads_cut count status.Done new line counts' u = absurd u
-  loads_cut count status.Usage new line counts' u = absurd u
-  loads_cut count status.NoStore new line counts' u = absurd u
-  loads_cut count (status.Damaged file at) new line counts' u = absurd u
-  loads_cut count status.DamagedJob new line counts' u = absurd u
-  loads_cut count status.ReadFault new line counts' u = absurd u
-  loads_cut count status.SayFault new line counts' u = absurd u
-  loads_cut count status.Memory new line counts' u = absurd u
-  loads_cut count (status.Limit bound) new line counts' u = absurd u
-  loads_cut count status.Unfinished new line counts' u = absurd u
-  loads_cut count status.Exists new line counts' u = absurd u
+  loads_cut by_rule count status.GroundFault new line counts' u = cut_by count status.GroundFault new line counts' refl (λ xs. inr h.ran.trace.began) (λ spawned held spawns. tt) ((λ e. absurd (cc e)), (λ e. absurd (cc e))) u
+  loads_cut by_rule count (status.DamagedRecord at) new line counts' u = cut_by count (status.DamagedRecord at) new line counts' refl (λ xs. h.ran.trace.began) (λ spawned held spawns b. u.1 (h.ran.trace.known_so b)) ((λ e. absurd (cc e)), (λ e. absurd (cc e))) u.0
+  loads_cut by_rule count (status.DamagedName at want got) new line counts' u = cut_by count (status.DamagedName at want got) new line counts' refl (λ xs. h.ran.trace.began) (λ spawned held spawns. ((λ b. u.1 (h.ran.trace.known_so b)), λ sure. u.2 (by_rule sure))) ((λ e. absurd (cc e)), (λ e. absurd (cc e))) u.0
+  loads_cut by_rule count status.Done new line counts' u = absurd u
+  loads_cut by_rule count status.Usage new line counts' u = absurd u
+  loads_cut by_rule count status.NoStore new line counts' u = absurd u
+  loads_cut by_rule count (status.Damaged file at) new line counts' u = absurd u
+  loads_cut by_rule count status.DamagedJob new line counts' u = absurd u
+  loads_cut by_rule count status.ReadFault new line counts' u = absurd u
+  loads_cut by_rule count status.SayFault new line counts' u = absurd u
+  loads_cut by_rule count status.Memory new line counts' u = absurd u
+  loads_cut by_rule count (status.Limit bound) new line counts' u = absurd u
+  loads_cut by_rule count status.Unfinished new line counts' u = absurd u
+  loads_cut by_rule count status.Exists new line counts' u = absurd u
 
   -- ---- all lines were run
 
@@ -246,16 +251,18 @@ module _ (rule : Rule) (decisive : Bool) (seed state number : ℕ) (old mid : Ou
         exchanges = xs;
         first = first;
         run = record {
-          goes_on = goes_on_gone old new spawned held spawns gone.later ran.trace.goes_on;
+          goes_on = goes_on_gone old new spawned held spawns gone.gone ran.trace.goes_on;
           left = left ∙ h.left;
           begins = begins xs;
           first_is = refl;
           replies = record {
+            some = λ damage none. absurd (not_none h.exchanges x none);
             begun = ([], script_end count all ∙ (ap (λ (l : Bytes). lines_in h.exchanges ++ l ∷ []) (sym u.line_is) ∙ (sym (map-append (λ x. x.line) h.exchanges (x ∷ [])) ∙ sym (append_nil (lines_in xs)))), λ behind whole. refl);
             run = λ b. ran.trace.run (h.ran.trace.known_so b);
-            placed = placed_all (is_cut_short s') rule decisive h.known xs h.first u.after u.view h.slot old new counts' session ran;
-            watched = λ b. let is = h.ran.trace.known_so b in let w = u.exchanged.watches is in watched_all says_nothing (is_cut_short s') (is_cut_short s') old.told new.told first xs session.store.held.collection (watched_on new counts' session u.after u.view x u.exchanged is) w.answered w.by_now
-                (w.unsaid ∙ (h.said is ∙ (sym (append_nil (said old.told)) ∙ ap (λ (t : Bytes). said old.told ++ t) (sym (none_said xs)))));
+            watched = λ b start live. let is = h.ran.trace.known_so b in let w = u.exchanged.watches is in subst (λ (t : Slot). WatchedIn rule says_nothing false (is_cut_short s') old.told new.told t first xs) (live_at rule decisive h.known h.exchanges h.first h.repository h.view h.slot old mid counts s h.ran is start live)
+                (watched_all rule says_nothing false (is_cut_short s') old.told new.told h.slot first xs session.store.held.collection session.store.held.slot session.store.held.unswept u.view (watched_on new counts' session u.after u.view x u.exchanged is)
+                (held_has session.store.held u.after new.told (u.exchanged.working is).holds) w.answered w.by_now (λ _. w.unsaid ∙ (h.said is ∙ (sym (append_nil (said old.told)) ∙ ap (λ (t : Bytes). said old.told ++ t) (sym (none_said xs)))))
+                (λ held. w.lent_behind (subst IsHeldIn (after_more first h.exchanges x) held)));
             said = λ b. let is = h.ran.trace.known_so b in let p = u.part is in record {
               part = p.0;
               rest = p.1;
@@ -277,26 +284,28 @@ module _ (rule : Rule) (decisive : Bool) (seed state number : ℕ) (old mid : Ou
           };
           notes = notes_of rule decisive h.known xs h.first s' old new counts' ran.trace (serving_on s' old.counts mid.counts new.counts h.no_fault u.counted) spawned held spawns gone;
           row = row spawned held spawns;
+          unopened = λ is none. absurd (not_none h.exchanges x none);
+          unwritten = λ told damage few. absurd (cc (damage_short s' damage, cut));
         };
         children = asks_of rule decisive h.known xs h.first (is_cut_short s') old new counts' ran.trace (happen_all (is_cut_short s') xs ran.phases) spawned held spawns gone;
       }
 
-  pub loads_said : (count : ℕ) (s' : Status) (new : Outside) (counts' : TurnCounts) (session : Session) → FinishesLoad rule s' h.known mid new (summary_of count (replies_in h.exchanges)) counts counts' s session h.repository h.view → number ≡ count → new.left ≡ mid.left
+  pub loads_said : (IsTrue decisive → IsDecisive rule) → (count : ℕ) (s' : Status) (new : Outside) (counts' : TurnCounts) (session : Session) → FinishesLoad rule s' h.known mid new (summary_of count (replies_in h.exchanges)) counts counts' s session h.repository h.view → number ≡ count → new.left ≡ mid.left
       → (spawned : spawn.Told) (held : Option ℕ) (spawns : SpawnCounts) → LetsGoAs new spawned held spawns → Loads rule decisive seed count old (let_go_as new spawned held spawns) s'
-  loads_said count status.Done new counts' session u all left = said_by count status.Done new counts' session refl (λ other. absurd (other refl)) (λ xs. h.ran.trace.began) (λ spawned held spawns. tt) all u left
-  loads_said count status.SayFault new counts' session u all left = said_by count status.SayFault new counts' session refl (λ other. refl) (λ xs. h.ran.trace.began) (λ spawned held spawns. tt) all u left
-  loads_said count status.GroundFault new counts' session u all left = loads_cut count status.GroundFault new (codes "stat") counts' u left [] (script_end count all)
-  loads_said count (status.DamagedRecord at) new counts' session u all left = loads_cut count (status.DamagedRecord at) new (codes "stat") counts' u left [] (script_end count all)
-  loads_said count (status.DamagedName at want got) new counts' session u all left = loads_cut count (status.DamagedName at want got) new (codes "stat") counts' u left [] (script_end count all)
-  loads_said count status.Usage new counts' session u all left = absurd u
-  loads_said count status.NoStore new counts' session u all left = absurd u
-  loads_said count (status.Damaged file at) new counts' session u all left = absurd u
-  loads_said count status.DamagedJob new counts' session u all left = absurd u
-  loads_said count status.ReadFault new counts' session u all left = absurd u
-  loads_said count status.Memory new counts' session u all left = absurd u
-  loads_said count (status.Limit bound) new counts' session u all left = absurd u
-  loads_said count status.Unfinished new counts' session u all left = absurd u
-  loads_said count status.Exists new counts' session u all left = absurd u
+  loads_said by_rule count status.Done new counts' session u all left = said_by count status.Done new counts' session refl (λ other. absurd (other refl)) (λ xs. h.ran.trace.began) (λ spawned held spawns. tt) all u left
+  loads_said by_rule count status.SayFault new counts' session u all left = said_by count status.SayFault new counts' session refl (λ other. refl) (λ xs. h.ran.trace.began) (λ spawned held spawns. tt) all u left
+  loads_said by_rule count status.GroundFault new counts' session u all left = loads_cut by_rule count status.GroundFault new (codes "stat") counts' u left [] (script_end count all)
+  loads_said by_rule count (status.DamagedRecord at) new counts' session u all left = loads_cut by_rule count (status.DamagedRecord at) new (codes "stat") counts' u left [] (script_end count all)
+  loads_said by_rule count (status.DamagedName at want got) new counts' session u all left = loads_cut by_rule count (status.DamagedName at want got) new (codes "stat") counts' u left [] (script_end count all)
+  loads_said by_rule count status.Usage new counts' session u all left = absurd u
+  loads_said by_rule count status.NoStore new counts' session u all left = absurd u
+  loads_said by_rule count (status.Damaged file at) new counts' session u all left = absurd u
+  loads_said by_rule count status.DamagedJob new counts' session u all left = absurd u
+  loads_said by_rule count status.ReadFault new counts' session u all left = absurd u
+  loads_said by_rule count status.Memory new counts' session u all left = absurd u
+  loads_said by_rule count (status.Limit bound) new counts' session u all left = absurd u
+  loads_said by_rule count status.Unfinished new counts' session u all left = absurd u
+  loads_said by_rule count status.Exists new counts' session u all left = absurd u
 
 -- ---- no line was run
 
@@ -314,10 +323,10 @@ loads_none rule decisive seed count old new s g f opening left turns unasked rea
         begins = begins;
         first_is = refl;
         replies = record {
+          some = λ damage. absurd (no_damage s sound damage);
           begun = (load_script seed count, refl, λ behind whole. absurd (unopened behind));
           run = λ told. tt;
-          placed = λ told slot live. record { whole = []; cut = []; all = refl; one = omega arith; none = λ _. refl; last = slot; view = no_view; places = (refl, refl) };
-          watched = λ told. watched_unbegun says_nothing (is_cut_short s) (is_cut_short s) old.told new.told first refl (quiet told.0.0);
+          watched = λ told slot live. watched_unbegun rule says_nothing false (is_cut_short s) old.told new.told slot first refl (quiet told.0.0) (live_on old.told new.told (f told.0.0).files slot live);
           said = λ b. record { part = []; rest = load_text count []; text_is = refl; said_is = quiet b.0.0 ∙ sym (append_nil (said old.told)); whole = λ done. absurd (undone done); none = λ _ _. refl };
         };
         reopens = record {
@@ -329,6 +338,8 @@ loads_none rule decisive seed count old new s g f opening left turns unasked rea
         };
         notes = notes_none s old new turns reads unopened bound (serving_of s old.counts new.counts sound counted);
         row = row;
+        unopened = λ is none. record { none_taken = refl; left = left; said_nothing = quiet; only = f; turns = turns; unasked = unasked };
+        unwritten = λ told damage few. absurd (no_damage s sound damage);
       };
       children = asks_none (is_cut_short s) old new unasked;
     }
@@ -370,6 +381,6 @@ load_ends decisive sure status.Exists old new r n told stands calm = absurd r
 load_ends decisive sure status.NoStore old new r n told stands calm = absurd (stands_open old.told.held stands.0 stands.1 (r.1 told.0))
 load_ends decisive sure (status.Damaged file at) old new r n told stands calm = absurd (not_damaged old.told.held stands.1.standing file at (r.1 told))
 load_ends decisive sure (status.DamagedRecord at) old new r n told stands calm = absurd (r (told, sure))
-load_ends decisive sure (status.DamagedName at want got) old new r n told stands calm = absurd (r (told, sure))
+load_ends decisive sure (status.DamagedName at want got) old new r n told stands calm = absurd (r.0 (told, sure))
 load_ends decisive sure status.SayFault old new r n told stands calm = absurd (calm.say n.rose)
 load_ends decisive sure status.GroundFault old new r n told stands calm = absurd (calm.file n.rose)

@@ -1,9 +1,9 @@
 -- A run of the machine that goes on by an exchange, and how it ends.
---     append_nil, after_more, run_more, places_more      of lists of exchanges
+--     append_nil, after_more, run_more      of lists of exchanges
 --     told_before, goes_on_then, keeps_unchanged, told_none      of what is told before and behind
 --     trace_more, ran_more      one exchange more.      ran_first      none yet.      said_along      a reply is said behind it
 --     let_go_as, LetsGoAs, goes_on_gone      the child that is held is let go.      notes_of, asks_of      what was noted, and asked of the spawner.      notes_none, asks_none      where no command was begun
---     places_in      where its records came to lie, from the slot that was live
+--     happen_all, happen_cut      what was met in all, or all but one that was cut short.      live_at      the slot is the one that was live
 use Rattle.std.proofs.Common.{true, ◌≡◌, inl, ℕ, ◌≤◌, Bool, List, [], ◌∷◌, ◌++◌, length, refl, sym, ap, ap₂, ◌∙◌, subst, arith, append_assoc, IsTrue, Option, None, Some}
 use Rattle.std.proofs.lemmas.List.{map-append}
 use Rattle.ip_ground.specs.declared.names.FileName.TheVariants.{Control}
@@ -20,13 +20,12 @@ use Rattle.ip_image.specs.Pending.{HasLive}
 use Rattle.ip_image.proofs.HeadlineLaws.{one_slot}
 use Rattle.ip_spec.specs.Merge.{Rule}
 use Rattle.ip_spec.specs.Path.{Bytes}
-use Rattle.ip_spec.specs.View.{View, no_view}
+use Rattle.ip_spec.specs.View.{View}
 use Rattle.ip_spec.specs.Repository.{Repository}
 use Rattle.ip_spec.specs.Machine.{State, Phase, opened}
 use Rattle.ip_merge.specs.Rules.{IsDecisive}
 use Rattle.ip_spec.specs.Line.{IsLineOf}
 use Rattle.ip_spec.specs.Script.{LineStep}
-use Rattle.ip_held.specs.declared.collection.Unswept.{Unswept}
 use Rattle.ip_opens.specs.Opening.{RecoversOnceOpen}
 use Rattle.ip_held.specs.Clear.{IsCleared, IsClearAt}
 use Rattle.ip_held.specs.Collecting.{phase_of, child_of}
@@ -38,16 +37,14 @@ use Rattle.ip_session.specs.Session.{IsServing, IsWorking, state_in}
 use Rattle.ip_app.specs.declared.turn_log.Turn.{Turn}
 use Rattle.ip_app.specs.declared.statuses.Status.{Status}
 use Rattle.ip_app.specs.Exchanges.{Exchange, conditions, Run, after_all, turns_in}
-use Rattle.ip_session.specs.Placing.{PlacedIn}
-use Rattle.ip_session.specs.Session.{IsViewIn}
-use Rattle.ip_app.specs.Places.{Places, PlacesIn, StartsAt, HearsAt}
-use Rattle.ip_app.specs.Happening.{Happens, AllHappen, HappenIn, started_in, ends_in}
-use Rattle.ip_session.specs.Asking.{starts_in}
-use Rattle.ip_app.specs.Turns.{turn_counts, SpawnsLater, Follow}
+use Rattle.ip_app.specs.Happening.{Happens, HappensCut, AllHappen, HappenIn, phase_after, started_in, ends_in}
+use Rattle.ip_session.specs.Asking.{LetsGo, starts_in}
+use Rattle.ip_app.specs.Turns.{turn_counts, Follow}
 use Rattle.ip_app.specs.Outside.{Outside, Tells, Knows, GoesOn, IsBound, IsUnasked}
 use Rattle.ip_app.specs.Run.{IsBehindOpening, Notes, AsksChildren}
 use Rattle.ip_app.proofs.Counting.{bound_to, spawns_on, still_at, follow_more}
-use Rattle.ip_app.proofs.Happened.{happen_more, told_with, spawned_more}
+use Rattle.ip_app.proofs.Happened.{later_gone, happen_more, phase_all, told_with, spawned_more}
+use Rattle.ip_app.proofs.Unwritten.{none_synced, not_none}
 use Rattle.ip_app.proofs.LivePair.{live_before}
 use Rattle.ip_app.specs.Exchanging.{OnlyRemovals, CountsServing, Begun, Exchanged, Trace, Ran}
 
@@ -84,11 +81,6 @@ keeps_unchanged a b only = keeps_store a b (Only Control) (λ file is. inl is) o
 
 -- ---- one exchange more
 
--- one exchange more
-pub places_more : (rule : Rule) (slot : Slot) (s : State) (v : View) (xs : List Exchange) (mid : Slot) (w : View) (x : Exchange) (unswept : Unswept) (last : Slot) (view : View) → Places rule slot s v xs mid w → x.after.work.tree ≡ view.map → IsViewIn (after_all s xs).repository w x.line x.reply view → PlacedIn rule mid unswept last (after_all s xs) w x.line x.reply → StartsAt mid last x → HearsAt mid x → Places rule slot s v (xs ++ x ∷ []) last view
-places_more rule slot s v [] mid w x unswept last view h tree seen placed starts hears = (last, unswept, view, tree, subst (λ (u : View). IsViewIn s.repository u x.line x.reply view) h.1 seen, subst (λ (a : Slot). PlacedIn rule a unswept last s v x.line x.reply) h.0 (subst (λ (u : View). PlacedIn rule mid unswept last s u x.line x.reply) h.1 placed), subst (λ (a : Slot). StartsAt a last x) h.0 starts, subst (λ (a : Slot). HearsAt a x) h.0 hears, (refl, refl))
-places_more rule slot s v (y ∷ xs) mid w x unswept last view h tree seen placed starts hears = (h.0, h.1, h.2, h.3, h.4, h.5, h.6, h.7, places_more rule h.0 y.after h.2 xs mid w x unswept last view h.8 tree seen placed starts hears)
-
 -- One command more was begun. No fault was counted before.
 pub trace_more : (rule : Rule) (decisive known : Bool) (xs : List Exchange) (first : Repository) (old mid new : Outside) (counts counts' : TurnCounts) (state : State) (x : Exchange) → Trace rule decisive known xs first old mid counts → OnlyRemovals old.counts mid.counts
     → (IsTrue known → state ≡ after_all (opened first) xs) → Begun rule known mid new counts counts' state x → Trace rule decisive known (xs ++ x ∷ []) first old new counts'
@@ -122,9 +114,6 @@ ran_more rule decisive known xs first r v slot old mid new counts counts' s s' x
   trace = trace_more rule decisive known xs first old mid new counts counts' (state_in s r v) x h.trace no_fault h.now_at t.begun;
   now_at = λ g. sym (t.now_at g) ∙ sym (after_more (opened first) xs x);
   live = h.live;
-  places = λ g. places_more rule slot (opened first) no_view xs s.store.held.slot v x s.store.held.unswept s'.store.held.slot view (h.places g) (ap (λ (state : State). state.work.tree) (t.now_at g))
-      (subst (λ (state : State). IsViewIn state.repository v x.line x.reply view) (h.now_at g) (t.seen g))
-      (subst (λ (state : State). PlacedIn rule s.store.held.slot s.store.held.unswept s'.store.held.slot state v x.line x.reply) (h.now_at g) (t.placed g)) (t.starts g) (t.hears g);
   serving = t.serving;
   working = t.working;
   clear = λ g clear. t.clear g (h.clear g clear);
@@ -132,6 +121,7 @@ ran_more rule decisive known xs first r v slot old mid new counts counts' s s' x
   phases = happen_more (opened first) xs x h.phases (subst (λ (phase : Phase). Happens phase x) h.phase t.happens);
   phase = sym t.phase ∙ sym (ap (λ (state : State). state.phase) (after_more (opened first) xs x));
   child = t.child;
+  unwritten = λ told none. absurd (not_none xs x none);
 }
 
 -- nothing was started, nor reaped
@@ -139,11 +129,11 @@ pub told_none : (told : spawn.Told) → told ≡ told_with (told.started ++ []) 
 told_none told = ap₂ told_with (sym (append_nil told.started)) (sym (append_nil told.reaped))
 
 -- no line was run yet
-pub ran_first : (rule : Rule) (decisive : Bool) → (IsTrue decisive → IsDecisive rule) → (old now : Outside) (counts : TurnCounts) (s : Session) (r : Repository) (v : View) → v ≡ no_view → (known : (b : Bool) × (Knows decisive old → IsTrue b) × (IsTrue b → Knows decisive old)) → IsServing s → state_in s r v ≡ opened r
+pub ran_first : (rule : Rule) (decisive : Bool) → (IsTrue decisive → IsDecisive rule) → (old now : Outside) (counts : TurnCounts) (s : Session) (r : Repository) (v : View) → (known : (b : Bool) × (Knows decisive old → IsTrue b) × (IsTrue b → Knows decisive old)) → IsServing s → state_in s r v ≡ opened r
     → (Tells old → IsWorking now.told s r v) → (Tells old → IsClearAt old.told → IsCleared s.store.held now.told) → (Tells old → StandsFor old.told.held r) → (IsTrue old.ground_tells → RecoversOnceOpen old.told now.told)
     → counts ≡ turn_counts old.counts old.spawns → now.counts ≡ bound_to old.dir old.counts → IsUnasked old now → s.store.held.collection ≡ None → old.held ≡ None → now.read_faults ≡ old.read_faults → GoesOn old now → (IsTrue old.ground_tells → SyncsOnly (Only Control) old.told now.told) → now.turns ≡ old.turns
     → Ran rule decisive known.0 [] r r v s.store.held.slot old now counts s
-ran_first rule decisive by_rule old now counts s r v none_known known serving begun working cleared began opening counted no_fault unasked idle alone reads g f turns = record {
+ran_first rule decisive by_rule old now counts s r v known serving begun working cleared began opening counted no_fault unasked idle alone reads g f turns = record {
   trace = record {
     known_so = known.1;
     tells = λ is. (known.2 is).0;
@@ -161,7 +151,6 @@ ran_first rule decisive by_rule old now counts s r v none_known known serving be
   };
   now_at = λ is. begun;
   live = λ is. live_before old.told now.told (f (known.2 is).0.0).files s.store.held.slot (held_has s.store.held r now.told (working (known.2 is).0).holds);
-  places = λ is. (refl, none_known);
   serving = serving;
   working = λ is. working (known.2 is).0;
   clear = λ is. cleared (known.2 is).0;
@@ -169,6 +158,7 @@ ran_first rule decisive by_rule old now counts s r v none_known known serving be
   phases = tt;
   phase = ap phase_of idle;
   child = unasked.held ∙ (alone ∙ sym (ap child_of idle));
+  unwritten = λ told none. none_synced old.told now.told (f told);
 }
 
 -- ---- how it ends
@@ -182,10 +172,10 @@ pub record LetsGoAs (new : Outside) (spawned : spawn.Told) (held : Option ℕ) (
   pub few : length ends ≤ 1
   pub told : IsTrue new.spawner_tells → spawned ≡ told_with new.spawned.started (new.spawned.reaped ++ ends)
   pub none : held ≡ None
-  pub later : SpawnsLater new.spawns spawns
+  pub gone : LetsGo new.spawns spawns
 
-pub goes_on_gone : (old new : Outside) (spawned : spawn.Told) (held : Option ℕ) (spawns : SpawnCounts) → SpawnsLater new.spawns spawns → GoesOn old new → GoesOn old (let_go_as new spawned held spawns)
-goes_on_gone old new spawned held spawns later g = record {
+pub goes_on_gone : (old new : Outside) (spawned : spawn.Told) (held : Option ℕ) (spawns : SpawnCounts) → LetsGo new.spawns spawns → GoesOn old new → GoesOn old (let_go_as new spawned held spawns)
+goes_on_gone old new spawned held spawns gone g = record {
   dir = g.dir;
   source_tells = g.source_tells;
   ground_tells = g.ground_tells;
@@ -193,7 +183,7 @@ goes_on_gone old new spawned held spawns later g = record {
   log_tells = g.log_tells;
   read_faults = g.read_faults;
   counts = g.counts;
-  spawns = spawns_on old.spawns new.spawns spawns g.spawns later;
+  spawns = spawns_on old.spawns new.spawns spawns g.spawns (later_gone new.spawns spawns gone);
 }
 
 -- what was started and reaped in these exchanges, and then
@@ -206,7 +196,7 @@ pub notes_of : (rule : Rule) (decisive known : Bool) (xs : List Exchange) (first
     → (spawned : spawn.Told) (held : Option ℕ) (spawns : SpawnCounts) → LetsGoAs new spawned held spawns → Notes old (let_go_as new spawned held spawns) end xs
 notes_of rule decisive known xs first end old new counts h counted spawned held spawns gone = record {
   noted = h.noted;
-  follow = λ behind. (new.spawns, gone.later, subst (λ (e : TurnCounts). Follow (turn_counts old.counts old.spawns) (turns_in xs) e) h.counts_now h.follow);
+  follow = λ behind. (new.spawns, gone.gone, subst (λ (e : TurnCounts). Follow (turn_counts old.counts old.spawns) (turns_in xs) e) h.counts_now h.follow);
   counted = counted;
   reads = λ other. h.reads;
   bound = inl h.bound;
@@ -214,9 +204,9 @@ notes_of rule decisive known xs first end old new counts h counted spawned held 
 }
 
 -- what was asked of the spawner
-pub asks_of : (rule : Rule) (decisive known : Bool) (xs : List Exchange) (first : Repository) (cut_off : Bool) (old new : Outside) (counts : TurnCounts) → Trace rule decisive known xs first old new counts → HappenIn cut_off xs
-    → (spawned : spawn.Told) (held : Option ℕ) (spawns : SpawnCounts) → LetsGoAs new spawned held spawns → AsksChildren cut_off old (let_go_as new spawned held spawns) xs
-asks_of rule decisive known xs first cut_off old new counts h happen spawned held spawns gone = record {
+pub asks_of : (rule : Rule) (decisive known : Bool) (xs : List Exchange) (first : Repository) (cut_short : Bool) (old new : Outside) (counts : TurnCounts) → Trace rule decisive known xs first old new counts → HappenIn cut_short xs
+    → (spawned : spawn.Told) (held : Option ℕ) (spawns : SpawnCounts) → LetsGoAs new spawned held spawns → AsksChildren cut_short old (let_go_as new spawned held spawns) xs
+asks_of rule decisive known xs first cut_short old new counts h happen spawned held spawns gone = record {
   happen = happen;
   spawned = λ b. (gone.ends, gone.few, told_gone old new spawned xs gone.ends (h.spawned b) (gone.told (told_before _ _ h.goes_on.spawner_tells b)));
   none_held = λ _. gone.none;
@@ -233,32 +223,28 @@ notes_none end old new turns reads unopened bound counted = record {
   bound_first = λ some. absurd (some refl);
 }
 
-pub asks_none : (cut_off : Bool) (old new : Outside) → IsUnasked old new → AsksChildren cut_off old new []
-asks_none cut_off old new unasked = record {
-  happen = record { whole = []; cut = []; all = refl; one = omega arith; none = λ _. refl; happen = tt };
+pub asks_none : (cut_short : Bool) (old new : Outside) → IsUnasked old new → AsksChildren cut_short old new []
+asks_none cut_short old new unasked = record {
+  happen = record { whole = []; cut = []; all = refl; one = omega arith; none = λ _. refl; happen = tt; happen_cut = λ x is. absurd (cc is) };
   spawned = λ b. ([], omega arith, unasked.spawned ∙ (told_none old.spawned ∙ ap (told_with (old.spawned.started ++ [])) (sym (append_nil (old.spawned.reaped ++ [])))));
   none_held = λ alone. unasked.held ∙ alone;
 }
 
--- all of them happened, or all but one that was cut off
-pub happen_all : (cut_off : Bool) (xs : List Exchange) → AllHappen Phase.Idle xs → HappenIn cut_off xs
-happen_all cut_off xs all = record { whole = xs; cut = []; all = append_nil xs; one = omega arith; none = λ _. refl; happen = all }
+-- all of them happened, or all but one that was cut short
+pub happen_all : (cut_short : Bool) (xs : List Exchange) → AllHappen Phase.Idle xs → HappenIn cut_short xs
+happen_all cut_short xs all = record { whole = xs; cut = []; all = append_nil xs; one = omega arith; none = λ _. refl; happen = all; happen_cut = λ x is. absurd (cc is) }
 
-pub happen_cut : (xs : List Exchange) (x : Exchange) → AllHappen Phase.Idle xs → HappenIn true (xs ++ x ∷ [])
-happen_cut xs x all = record { whole = xs; cut = x ∷ []; all = refl; one = omega arith; none = λ c. absurd (cc c); happen = all }
+pub happen_cut : (first : Repository) (xs : List Exchange) (x : Exchange) → AllHappen Phase.Idle xs → HappensCut (after_all (opened first) xs).phase x → HappenIn true (xs ++ x ∷ [])
+happen_cut first xs x all cut = record {
+  whole = xs;
+  cut = x ∷ [];
+  all = refl;
+  one = omega arith;
+  none = λ c. absurd (cc c);
+  happen = all;
+  happen_cut = λ y is. (let same : x ≡ y = cc is in subst (HappensCut (phase_after Phase.Idle xs)) same (subst (λ (phase : Phase). HappensCut phase x) (sym (phase_all (opened first) xs)) cut));
+}
 
 -- one slot was live when the run began
-placed_from : (rule : Rule) (decisive known : Bool) (xs : List Exchange) (first r : Repository) (v : View) (slot : Slot) (old now : Outside) (counts : TurnCounts) (session : Session) → Ran rule decisive known xs first r v slot old now counts session → Knows decisive old → (live : Slot) → HasLive live old.told.held
-    → Places rule live (opened first) no_view xs session.store.held.slot v
-placed_from rule decisive known xs first r v slot old now counts session h b live has =
-    let is = h.trace.known_so b in
-    subst (λ (t : Slot). Places rule t (opened first) no_view xs session.store.held.slot v) (one_slot slot live old.told.held (h.live is) has) (h.places is)
-
-pub placed_all : (cut_off : Bool) (rule : Rule) (decisive known : Bool) (xs : List Exchange) (first r : Repository) (v : View) (slot : Slot) (old now : Outside) (counts : TurnCounts) (session : Session) → Ran rule decisive known xs first r v slot old now counts session → Knows decisive old → (live : Slot) → HasLive live old.told.held
-    → PlacesIn rule cut_off live (opened first) xs
-placed_all cut_off rule decisive known xs first r v slot old now counts session h b live has = record { whole = xs; cut = []; all = append_nil xs; one = omega arith; none = λ _. refl; last = session.store.held.slot; view = v; places = placed_from rule decisive known xs first r v slot old now counts session h b live has }
-
--- but for one that was cut off
-pub placed_cut : (rule : Rule) (decisive known : Bool) (xs : List Exchange) (first r : Repository) (v : View) (slot : Slot) (old now : Outside) (counts : TurnCounts) (session : Session) (x : Exchange) → Ran rule decisive known xs first r v slot old now counts session → Knows decisive old → (live : Slot) → HasLive live old.told.held
-    → PlacesIn rule true live (opened first) (xs ++ x ∷ [])
-placed_cut rule decisive known xs first r v slot old now counts session x h b live has = record { whole = xs; cut = x ∷ []; all = refl; one = omega arith; none = λ c. absurd (cc c); last = session.store.held.slot; view = v; places = placed_from rule decisive known xs first r v slot old now counts session h b live has }
+pub live_at : (rule : Rule) (decisive known : Bool) (xs : List Exchange) (first r : Repository) (v : View) (slot : Slot) (old now : Outside) (counts : TurnCounts) (session : Session) → Ran rule decisive known xs first r v slot old now counts session → IsTrue known → (live : Slot) → HasLive live old.told.held → slot ≡ live
+live_at rule decisive known xs first r v slot old now counts session h is live has = one_slot slot live old.told.held (h.live is) has

@@ -1,5 +1,5 @@
 -- A run that goes on by a line, and how it ends.
-use Rattle.std.specs.Prelude.{◌≢◌, IfSome}
+use Rattle.std.specs.Prelude.{◌≢◌, IfSome, IsSomeAnd}
 use Rattle.std.proofs.Common.{true, ◌≡◌, inl, inr, ℕ, ◌≤◌, Bool, false, List, [], ◌∷◌, ◌++◌, length, refl, sym, ap, ap₂, ◌∙◌, subst, arith, append_assoc, length-append, map, IsTrue, All, take, drop, Option, Some, None, Result}
 use Rattle.std.proofs.lemmas.Bool.{cases_lt}
 use Rattle.std.proofs.lemmas.List.{map-append, take-append-drop}
@@ -8,30 +8,33 @@ use Rattle.ip_ground.specs.declared.names.FileName.TheVariants.{Control}
 use Rattle.ip_ground.specs.declared.names.GroundFault.{GroundFault}
 use Rattle.ip_spawn.specs.Children as spawn
 use Rattle.ip_spawn.specs.declared.spawner.SpawnCounts.{SpawnCounts}
-use Rattle.ip_ground.specs.Counts.{Noted, Rose, as_nothing}
-use Rattle.ip_ground.specs.Told.{Told, said, ChangesOnly, SyncsOnly, Only, NoFile}
+use Rattle.ip_ground.specs.Counts.{Noted, Rose, binds, as_nothing}
+use Rattle.ip_ground.specs.Custody.{Custody, lent}
+use Rattle.ip_ground.specs.Told.{Told, said, lending, ChangesOnly, SyncsOnly, Only, NoFile}
 use Rattle.ip_ground.specs.Calls.{Says}
 use Rattle.ip_ground.proofs.Spans.{said_now, lending_now}
 use Rattle.ip_image.specs.declared.counts.TurnCounts.{TurnCounts}
+use Rattle.ip_image.specs.declared.slot.Slot.{Slot}
 use Rattle.ip_image.specs.Slot.{live_index}
 use Rattle.ip_image.specs.Standing.{StandsFor, NoStore}
-use Rattle.ip_image.specs.Pending.{NothingPending}
+use Rattle.ip_image.specs.Pending.{HasLive, NothingPending}
 use Rattle.ip_image.specs.Headline.{Headline}
 use Rattle.ip_image.proofs.DamageLaws.{not_damaged}
-use Rattle.ip_image.proofs.HeadlineLaws.{headline_later}
+use Rattle.ip_image.proofs.HeadlineLaws.{headline_later, turns_quietly}
 use Rattle.ip_image.proofs.OneRepository.{one_repository}
 use Rattle.ip_spec.specs.Path.{Bytes, line_feed}
 use Rattle.ip_spec.specs.Merge.{Rule}
 use Rattle.ip_ground.specs.Contents.{Image, Content, bytes_of}
 use Rattle.ip_spec.specs.View.{View, no_view}
 use Rattle.ip_spec.specs.Repository.{Repository, no_repository}
-use Rattle.ip_spec.specs.Machine.{State, opened}
+use Rattle.ip_spec.specs.Machine.{State, Phase, opened}
 use Rattle.ip_merge.specs.Rules.{IsDecisive}
 use Rattle.ip_spec.specs.Script.{whole_lines}
 use Rattle.ip_spec.specs.Text.{reply_text}
 use Rattle.ip_held.specs.Control.{control_in}
 use Rattle.ip_opens.specs.Opening.{RecoversOnceOpen}
-use Rattle.ip_held.specs.Clear.{IsCleared, IsClearAt}
+use Rattle.ip_held.specs.declared.collection.Collection.{Collection}
+use Rattle.ip_held.specs.Clear.{IsCleared, IsClearAt, unswept_in}
 use Rattle.ip_held.specs.Sweeping.{KeepsFiles}
 use Rattle.ip_held.proofs.KeptFiles.{keeps_on, keeps_custody, stays_goes}
 use Rattle.ip_held.proofs.Recovering.{held_has}
@@ -44,18 +47,20 @@ use Rattle.ip_app.specs.declared.statuses.Bound.TheVariants as bound
 use Rattle.ip_app.specs.Lines.{longest_line, last_piece}
 use Rattle.ip_app.specs.Pending.{pending}
 use Rattle.ip_app.specs.Reading.{EndsReading, IsCaused}
-use Rattle.ip_app.specs.Exchanges.{Exchange, answer_of, lines_in, turns_in, texts_in}
-use Rattle.ip_app.specs.Places.{PlacesIn}
-use Rattle.ip_app.specs.Judged.{Watches}
+use Rattle.ip_app.specs.Exchanges.{Exchange, answer_of, lines_in, turns_in, texts_in, after_all}
+use Rattle.ip_app.specs.Exchanging.{Exchanged}
+use Rattle.ip_app.specs.Happening.{HappensCut}
+use Rattle.ip_app.specs.Judged.{IsHeldIn, IsWatchedTo, WatchedIn, Watches}
 use Rattle.ip_app.specs.Turns.{turn_counts, Follow}
 use Rattle.ip_app.specs.Outside.{Outside, Tells, Knows, GoesOn, IsBound, IsUnasked}
-use Rattle.ip_app.specs.Serving.{is_cut_short, SaysPart, TurnedIn, Stopped, Unsaid, CountsOf, OnlyRemovals, CountsServing, Stops, Served}
-use Rattle.ip_app.proofs.RanOn.{append_nil, after_more, told_before, goes_on_then, keeps_unchanged, trace_more, ran_more, ran_first, let_go_as, LetsGoAs, goes_on_gone, told_gone, notes_of, asks_of, notes_none, asks_none, happen_all, happen_cut, placed_all, placed_cut}
-use Rattle.ip_app.specs.Run.{CouldNotOpen, IsUntouched, IsOpened, Begins, is_cut_off, Row, IsBehindOpening, AsksChildren, Serves, EndsWhereAllIsWell}
-use Rattle.ip_app.proofs.Cleared.{clear_synced, cleared_same}
-use Rattle.ip_app.proofs.Counting.{removals_bound, removals_on, serving_of, serving_on, bound_to, bound_counts, IsNoDamage}
-use Rattle.ip_app.proofs.Judging.{texts_same, watched_none, watched_unbegun, watched_next, watched_along, watched_cut, ended_same}
-use Rattle.ip_app.proofs.LivePair.{owns_pending}
+use Rattle.ip_app.specs.Serving.{is_cut_short, SaysPart, Took, TurnedIn, Stopped, HalfSaid, CutOff, CountsOf, OnlyRemovals, CountsServing, Stops, Served}
+use Rattle.ip_app.proofs.RanOn.{append_nil, after_more, told_before, goes_on_then, keeps_unchanged, trace_more, ran_more, ran_first, let_go_as, LetsGoAs, goes_on_gone, told_gone, notes_of, asks_of, notes_none, asks_none, happen_all, happen_cut, live_at}
+use Rattle.ip_app.specs.Run.{CouldNotOpen, IsUntouched, IsOpened, Begins, is_cut_off, is_unsaid, Row, IsBehindOpening, AsksChildren, Serves, EndsWhereAllIsWell}
+use Rattle.ip_app.proofs.Cleared.{clear_synced, cleared_at, cleared_same}
+use Rattle.ip_app.proofs.Counting.{removals_bound, removals_on, serving_of, serving_on, bound_to, bound_counts, IsNoDamage, no_damage}
+use Rattle.ip_app.proofs.Judging.{texts_same, lent_in, watched_none, watched_unbegun, watched_next, watched_still, watched_all, watched_cut}
+use Rattle.ip_app.proofs.LivePair.{live_on, owns_pending}
+use Rattle.ip_app.proofs.Unwritten.{none_on, not_none, only_one, damage_off}
 use Rattle.ip_app.proofs.SameFiles.{stands_after}
 use Rattle.ip_app.proofs.Moments.{headline_none, headline_turn}
 use Rattle.ip_app.proofs.LineLemmas.{whole_lines-line, whole_lines-rest, last_piece-line, last_piece-rest}
@@ -85,8 +90,20 @@ says_part bytes r a b says = elim (cases_lt a.moment b.moment) [
       ([], bytes, refl, says.goes.said b.moment still ∙ (ap a.said_at same ∙ sym (append_nil (said a))))
 ]
 
+-- whose the attempt of a collection is, while none was lent or settled
+some_still : (o : Option Collection) (a b : Told) → lending b ≡ lending a → IsSomeAnd o (λ c. lending a c.job.attempt ≡ lent) → IsSomeAnd o (λ c. lending b c.job.attempt ≡ lent)
+some_still None a b same is = absurd is
+some_still (Some c) a b same is = ap (λ (whose : ℕ → Custody). whose c.job.attempt) same ∙ is
+
 abbrev IsShort : Bytes → Type 0
 IsShort line = length line ≤ longest_line
+
+-- what is found of one line more
+watched_line : (rule : Rule) (decisive : Bool) (old mid new : Outside) (lines : Lines) (counts counts' : TurnCounts) (s s' : Session) (h : Served rule decisive old mid lines counts s) (x : Exchange) (after : Repository) (view : View) → Exchanged rule h.known mid new counts counts' s s' h.repository h.view x after view → IsTrue h.known
+    → IsWatchedTo rule reply_text old.told new.told h.slot (opened h.first) (h.exchanges ++ x ∷ []) s'.store.held.collection s'.store.held.slot s'.store.held.unswept view
+watched_line rule decisive old mid new lines counts counts' s s' h x after view t g = watched_next rule reply_text old.told mid.told new.told (h.ran.trace.files g).goes (t.begun.files g).goes h.slot (opened h.first) h.exchanges h.view view s.store.held.collection s'.store.held.collection s.store.held.slot s'.store.held.slot s.store.held.unswept s'.store.held.unswept x
+    (h.watched g) (h.said g ∙ ap (λ (t : Bytes). said old.told ++ t) (texts_same h.exchanges)) (h.ran.nothing_pending g) (after_more (opened h.first) h.exchanges x) t.goes_on_by (h.ran.clear g)
+    (subst (λ (state : State). Watches rule mid.told new.told state h.view view s.store.held.collection s'.store.held.collection s.store.held.slot s'.store.held.slot s.store.held.unswept s'.store.held.unswept x) (h.ran.now_at g) (t.watches g))
 
 -- one line more was served
 pub served_more : (rule : Rule) (decisive : Bool) (old mid new : Outside) (lines lines' : Lines) (counts counts' : TurnCounts) (s s' : Session) (h : Served rule decisive old mid lines counts s) → TurnedIn rule h.known mid new lines lines' counts counts' s s' h.repository h.view → Served rule decisive old new lines' counts' s'
@@ -109,8 +126,7 @@ served_more rule decisive old mid new lines lines' counts counts' s s' h turned 
       rest_then = λ tail. ap last_piece (sym (regroup h.done x.line tail)) ∙ (h.rest_then (x.line ++ line_feed ∷ tail) ∙ last_piece-line x.line tail t.no_line_feed);
       short = subst (All IsShort) (sym (map-append (λ x. x.line) h.exchanges (x ∷ []))) (All-append IsShort (lines_in h.exchanges) (x.line ∷ []) h.short (All-cons IsShort x.line [] t.short (All-nil IsShort)));
       count = omega (arith, h.count, t.count, length-append h.done (x.line ++ line_feed ∷ []), length-append x.line (line_feed ∷ []));
-      watched = λ g. watched_next reply_text old.told mid.told new.told (h.ran.trace.files g).goes (goes.files g).goes (opened h.first) h.exchanges s.store.held.collection s'.store.held.collection s.store.held.slot s'.store.held.slot s.store.held.unswept x (h.watched g) (h.said g ∙ ap (λ (t : Bytes). said old.told ++ t) (texts_same h.exchanges)) (h.ran.nothing_pending g) (after_more (opened h.first) h.exchanges x) turned.exchanged.goes_on_by (h.ran.clear g)
-          (subst (λ (state : State). Watches mid.told new.told state s.store.held.collection s'.store.held.collection s.store.held.slot s'.store.held.slot s.store.held.unswept x) (h.ran.now_at g) (turned.exchanged.watches g));
+      watched = λ g. watched_line rule decisive old mid new lines counts counts' s s' h x turned.after turned.view turned.exchanged g;
       said = λ g. turned.said g ∙ (ap (λ (u : Bytes). u ++ reply_text x.reply) (h.said g) ∙ (append_assoc (said old.told) (texts_in h.exchanges) (reply_text x.reply) ∙ ap (λ (u : Bytes). said old.told ++ u) (sym (texts_more h.exchanges x))));
       opened_at = h.opened_at;
       headline = λ g order. headline_turn (h.opened_at g) old.told mid.told new.told (opened h.first) h.exchanges x (h.headline g order) (goes.files g).goes (h.over g) (h.said g)
@@ -119,10 +135,10 @@ served_more rule decisive old mid new lines lines' counts counts' s s' h turned 
     }
 
 -- no line was served yet
-pub served_first : (rule : Rule) (decisive : Bool) → (IsTrue decisive → IsDecisive rule) → (old now : Outside) (lines : Lines) (counts : TurnCounts) (s : Session) (r : Repository) (v : View) → v ≡ no_view → (known : (b : Bool) × (Knows decisive old → IsTrue b) × (IsTrue b → Knows decisive old)) → IsServing s → state_in s r v ≡ opened r → (Tells old → IsWorking now.told s r v) → (Tells old → IsClearAt old.told → IsCleared s.store.held now.told) → (Tells old → StandsFor old.told.held r)
+pub served_first : (rule : Rule) (decisive : Bool) → (IsTrue decisive → IsDecisive rule) → (old now : Outside) (lines : Lines) (counts : TurnCounts) (s : Session) (r : Repository) (v : View) → v ≡ no_view → s.store.held.unswept ≡ unswept_in s.store.held.slot → (known : (b : Bool) × (Knows decisive old → IsTrue b) × (IsTrue b → Knows decisive old)) → IsServing s → state_in s r v ≡ opened r → (Tells old → IsWorking now.told s r v) → (Tells old → IsClearAt old.told → IsCleared s.store.held now.told) → (Tells old → StandsFor old.told.held r)
     → (opening : IsTrue old.ground_tells → RecoversOnceOpen old.told now.told) → ((tells : Tells old) → (opening tells.0).since ≤ now.told.moment)
     → counts ≡ turn_counts old.counts old.spawns → now.counts ≡ bound_to old.dir old.counts → IsUnasked old now → s.store.held.collection ≡ None → old.held ≡ None → now.read_faults ≡ old.read_faults → GoesOn old now → (IsTrue old.ground_tells → SyncsOnly (Only Control) old.told now.told) → now.left ≡ old.left → now.turns ≡ old.turns → pending lines ≡ [] → lines.taken ≡ 0 → Served rule decisive old now lines counts s
-served_first rule decisive by_rule old now lines counts s r v none_known known serving begun working cleared began opening over counted no_fault unasked idle alone reads g f left turns none zero =
+served_first rule decisive by_rule old now lines counts s r v none_known carried known serving begun working cleared began opening over counted no_fault unasked idle alone reads g f left turns none zero =
     record {
       known = known.0;
       done = [];
@@ -131,14 +147,14 @@ served_first rule decisive by_rule old now lines counts s r v none_known known s
       repository = r;
       view = v;
       slot = s.store.held.slot;
-      ran = ran_first rule decisive by_rule old now counts s r v none_known known serving begun working cleared began opening counted no_fault unasked idle alone reads g f turns;
+      ran = ran_first rule decisive by_rule old now counts s r v known serving begun working cleared began opening counted no_fault unasked idle alone reads g f turns;
       no_fault = removals_bound old.counts now.counts (bound_counts old.dir old.counts now.counts as_nothing no_fault);
       bytes = λ b. sym left ∙ ap (λ (u : Bytes). u ++ now.left) (sym none);
       lines_then = λ tail. refl;
       rest_then = λ tail. refl;
       short = All-nil IsShort;
       count = omega (arith, zero, ap length none);
-      watched = λ is. watched_none reply_text old.told now.told (opened r) s.store.held.collection idle refl;
+      watched = λ is. watched_none rule reply_text old.told now.told (f (known.2 is).0.0) s.store.held.slot (opened r) s.store.held.collection idle refl s.store.held.unswept carried v none_known;
       said = λ is. let only = f (known.2 is).0.0 in said_now old.told now.told only.changes.goes only.changes.said ∙ sym (append_nil (said old.told));
       opened_at = λ is. (opening (known.2 is).0.0).since;
       over = λ is. over (known.2 is).0;
@@ -163,8 +179,7 @@ serves_none rule decisive old new s g f opening left turns unasked reads unopene
         begun = ([], refl, λ c. refl);
         short = All-nil IsShort;
         run = λ told. tt;
-        placed = λ told slot live. record { whole = []; cut = []; all = refl; one = omega arith; none = λ _. refl; last = slot; view = no_view; places = (refl, refl) };
-        watched = λ told. watched_unbegun reply_text (is_cut_off s) (is_cut_short s) old.told new.told first refl (quiet told.0.0);
+        watched = λ told slot live. watched_unbegun rule reply_text (is_unsaid s) (is_cut_short s) old.told new.told slot first refl (quiet told.0.0) (live_on old.told new.told (f told.0.0).files slot live);
         said_part = λ b. record { whole = []; cut = []; part = []; unsaid = []; all = refl; one = omega arith; some = λ _ begun. absurd (begun refl); text = refl; said_is = quiet b.0.0 ∙ (sym (append_nil (said old.told)) ∙ sym (append_nil (said old.told ++ []))); silent = λ cut_short. refl };
         said_all = λ b c. quiet b.0.0 ∙ sym (append_nil (said old.told));
       };
@@ -176,8 +191,10 @@ serves_none rule decisive old new s g f opening left turns unasked reads unopene
         files = λ b. keeps_unchanged old.told new.told (f b.0.0);
       };
       notes = notes_none s old new turns reads unopened bound (serving_of s old.counts new.counts sound counted);
-      children = asks_none (is_cut_off s) old new unasked;
+      children = asks_none (is_cut_short s) old new unasked;
       row = row;
+      unopened = λ is none. record { none_taken = refl; left = left; said_nothing = quiet; only = f; turns = turns; unasked = unasked };
+      unwritten = λ told damage few. absurd (no_damage s sound damage);
     }
 
 -- the store could not be opened
@@ -207,7 +224,7 @@ begins_unopened rule decisive old new s g f opening left turns unasked reads cou
 pub ends_along : (s : Status) (r r' t t' : ℕ) (A B : Type 0) → EndsReading s r t A → r ≡ r' → t ≡ t' → (A → B) → EndsReading s r' t' B
 ends_along status.Done r r' t t' A B h e f k = (k h.0, sym e ∙ h.1, omega arith)
 ends_along status.Unfinished r r' t t' A B h e f k = (k h.0, omega arith, omega arith, omega arith)
-ends_along (status.Limit bound.Line) r r' t t' A B h e f k = (omega arith, omega arith)
+ends_along (status.Limit bound.Line) r r' t t' A B h e f k = (sym e ∙ h.0, omega arith)
 ends_along (status.Limit bound.Input) r r' t t' A B h e f k = (omega arith, sym f ∙ h.1)
 ends_along status.ReadFault r r' t t' A B h e f k = (omega arith, omega arith)
 ends_along status.Usage r r' t t' A B h e f k = absurd h
@@ -264,12 +281,12 @@ serves_stopped rule decisive s old mid new lines lines' counts counts' session h
     let end = row_of decisive s old mid (let_go_as new spawned held spawns) taken first h.exchanges h.ran.trace.began (ends_along s (length t.rest) (length (last_piece taken)) lines'.taken (length taken) _ _ t.ends (ap length (sym rest)) long (λ e b. e (told_before _ _ h.ran.trace.goes_on.source_tells b))) (subst (OnlyRemovals old.counts) (sym t.no_fault) h.no_fault) h.ran.trace.reads t.cause in
     let known : IsTrue old.ground_tells → IsTrue decisive → NothingPending old.told → IsTrue h.known = λ b d order. h.ran.trace.known_so ((b, owns_pending old.told order), d) in
     let quiet : Knows decisive old → said new.told ≡ said old.told ++ texts_in h.exchanges = λ b. t.same_said ∙ h.said (h.ran.trace.known_so b) in
-    let bound : new.counts.bound ≡ Some old.dir = ap (λ (n : Noted). n.bound) t.no_fault ∙ h.ran.trace.bound in
+    let bound : new.counts.bound ≡ binds old.dir (Some old.dir) old.counts.bound = ap (λ (n : Noted). n.bound) t.no_fault ∙ h.ran.trace.bound in
     record {
       taken = taken;
       exchanges = h.exchanges;
       first = first;
-      goes_on = goes_on_gone old new spawned held spawns gone.later (goes_on_then old mid new h.ran.trace.goes_on t.goes_on);
+      goes_on = goes_on_gone old new spawned held spawns gone.gone (goes_on_then old mid new h.ran.trace.goes_on t.goes_on);
       begins = end.begins;
       first_is = refl;
       replies = record {
@@ -277,8 +294,11 @@ serves_stopped rule decisive s old mid new lines lines' counts counts' session h
         begun = ([], whole, λ c. refl);
         short = h.short;
         run = λ b. h.ran.trace.run (h.ran.trace.known_so b);
-        placed = placed_all (is_cut_off s) rule decisive h.known h.exchanges h.first h.repository h.view h.slot old mid counts session h.ran;
-        watched = λ b. let w = h.watched (h.ran.trace.known_so b) in record { whole = h.exchanges; cut = []; all = append_nil h.exchanges; one = omega arith; none = λ _. refl; last = w.last; watched = watched_along reply_text old.told mid.told new.told t.files.goes (said old.told) old.told.moment first None h.exchanges w.last w.watched; ended = new.told.moment; by_now = omega arith; said_then = quiet b ∙ ap (λ (u : Bytes). said old.told ++ u) (texts_same h.exchanges); reads = λ order held. ended_same mid.told new.told t.files.goes t.same_moment w.last _ (w.reads order held) };
+        watched = λ b start live. let is = h.ran.trace.known_so b in subst (λ (t : Slot). WatchedIn rule reply_text (is_unsaid s) (is_cut_short s) old.told new.told t first h.exchanges) (live_at rule decisive h.known h.exchanges h.first h.repository h.view h.slot old mid counts session h.ran is start live)
+            (watched_all rule reply_text (is_unsaid s) (is_cut_short s) old.told new.told h.slot first h.exchanges session.store.held.collection session.store.held.slot session.store.held.unswept h.view
+            (watched_still rule reply_text old.told mid.told new.told t.files.goes t.same_moment t.same_held h.slot first h.exchanges session.store.held.collection session.store.held.slot session.store.held.unswept h.view (h.watched is))
+            (subst (HasLive session.store.held.slot) (sym t.same_held) (held_has session.store.held h.repository mid.told (h.ran.working is).holds)) new.told.moment (omega arith) (λ _. quiet b ∙ ap (λ (u : Bytes). said old.told ++ u) (texts_same h.exchanges))
+            (λ held. some_still session.store.held.collection mid.told new.told t.same_lending (lent_in mid.told session.store.held h.repository (h.ran.working is).holds (after_all first h.exchanges) (sym h.ran.phase) held)));
         said_part = λ b. record { whole = h.exchanges; cut = []; part = []; unsaid = []; all = append_nil h.exchanges; one = omega arith; some = λ c _. absurd (cc (c, end.whole)); text = refl; said_is = quiet b ∙ sym (append_nil (said old.told ++ texts_in h.exchanges)); silent = λ cut_short. refl };
         said_all = λ b c. quiet b;
       };
@@ -293,84 +313,150 @@ serves_stopped rule decisive s old mid new lines lines' counts counts' session h
       };
       notes = record {
         noted = λ l. t.same_turns ∙ h.ran.trace.noted (t.goes_on.log_tells l);
-        follow = λ behind. (new.spawns, gone.later, subst (λ (e : TurnCounts). Follow (turn_counts old.counts old.spawns) (turns_in h.exchanges) e) (h.ran.trace.counts_now ∙ ap₂ turn_counts (sym t.no_fault) (sym t.unasked.spawns)) h.ran.trace.follow);
+        follow = λ behind. (new.spawns, gone.gone, subst (λ (e : TurnCounts). Follow (turn_counts old.counts old.spawns) (turns_in h.exchanges) e) (h.ran.trace.counts_now ∙ ap₂ turn_counts (sym t.no_fault) (sym t.unasked.spawns)) h.ran.trace.follow);
         counted = end.counted;
         reads = end.reads;
         bound = inl bound;
         bound_first = λ some. bound;
       };
       children = record {
-        happen = happen_all (is_cut_off s) h.exchanges h.ran.phases;
+        happen = happen_all (is_cut_short s) h.exchanges h.ran.phases;
         spawned = λ b. (gone.ends, gone.few, told_gone old new spawned h.exchanges gone.ends (t.unasked.spawned ∙ h.ran.trace.spawned b) (gone.told (told_before _ _ (goes_on_then old mid new h.ran.trace.goes_on t.goes_on).spawner_tells b)));
         none_held = λ _. gone.none;
       };
       row = end.row;
+      unopened = λ is none. let off : is_cut_off s ≡ true = ap is_cut_off is in absurd (cc (off, end.whole));
+      unwritten = λ told damage few. absurd (cc (damage_off s damage, end.whole));
     }
 
--- a reply could not be said
-serves_unsaid : (rule : Rule) (decisive : Bool) (s : Status) (old mid new : Outside) (lines lines' : Lines) (counts counts' : TurnCounts) (session : Session) (h : Served rule decisive old mid lines counts session) → is_cut_off s ≡ true → ((xs : List Exchange) → Begins s old (opened h.first) xs)
-    → Unsaid rule s h.known mid new lines lines' counts counts' session.store.held (state_in session h.repository h.view) → ((taken : Bytes) (last : Outside) → Row decisive s old last taken)
+-- the lines of what was taken, behind one more
+module _ (rule : Rule) (decisive : Bool) (old mid new : Outside) (lines lines' : Lines) (counts : TurnCounts) (session : Session) (h : Served rule decisive old mid lines counts session) (x : Exchange) (t : Took mid new lines lines' x.line) where
+  abbrev xs_more : List Exchange
+  xs_more = h.exchanges ++ x ∷ []
+
+  abbrev done_more : Bytes
+  done_more = h.done ++ (x.line ++ line_feed ∷ [])
+
+  then_lines : (tail : Bytes) → whole_lines (done_more ++ tail) ≡ lines_in xs_more ++ whole_lines tail
+  then_lines tail = ap whole_lines (sym (regroup h.done x.line tail)) ∙ (h.lines_then (x.line ++ line_feed ∷ tail) ∙ (ap (λ u. lines_in h.exchanges ++ u) (whole_lines-line x.line tail t.no_line_feed) ∙ (sym (append_assoc (lines_in h.exchanges) (x.line ∷ []) (whole_lines tail)) ∙ ap (λ u. u ++ whole_lines tail) (sym (map-append (λ x. x.line) h.exchanges (x ∷ []))))))
+
+  all_bytes : IsTrue old.source_tells → old.left ≡ (done_more ++ pending lines') ++ new.left
+  all_bytes b = h.bytes b ∙ (ap (λ (u : Bytes). h.done ++ u) (t.front (told_before _ _ h.ran.trace.goes_on.source_tells b)) ∙ (regroup h.done x.line (pending lines' ++ new.left) ∙ sym (append_assoc done_more (pending lines') new.left)))
+
+  all_short : All IsShort (lines_in xs_more)
+  all_short = subst (All IsShort) (sym (map-append (λ x. x.line) h.exchanges (x ∷ []))) (All-append IsShort (lines_in h.exchanges) (x.line ∷ []) h.short (All-cons IsShort x.line [] t.short (All-nil IsShort)))
+
+-- a fault cut the last command short
+serves_cut : (rule : Rule) (decisive : Bool) (s : Status) (old mid new : Outside) (lines lines' : Lines) (counts counts' : TurnCounts) (session : Session) (h : Served rule decisive old mid lines counts session) → is_cut_off s ≡ true → ((xs : List Exchange) → Begins s old (opened h.first) xs)
+    → CutOff rule s h.known mid new lines lines' counts counts' (state_in session h.repository h.view) → ((taken : Bytes) (last : Outside) → Row decisive s old last taken)
     → (spawned : spawn.Told) (held : Option ℕ) (spawns : SpawnCounts) → LetsGoAs new spawned held spawns → Serves rule decisive old (let_go_as new spawned held spawns) s
-serves_unsaid rule decisive s old mid new lines lines' counts counts' session h cut opened_so u row spawned held spawns gone =
+serves_cut rule decisive s old mid new lines lines' counts counts' session h cut opened_so u row spawned held spawns gone =
     let first = opened h.first in
     let x = u.exchange in
-    let t = u.took in
     let goes = u.begun in
     let xs = h.exchanges ++ x ∷ [] in
-    let trace = trace_more rule decisive h.known h.exchanges h.first old mid new counts counts' (state_in session h.repository h.view) x h.ran.trace h.no_fault h.ran.now_at goes in
+    let state = state_in session h.repository h.view in
+    let trace = trace_more rule decisive h.known h.exchanges h.first old mid new counts counts' state x h.ran.trace h.no_fault h.ran.now_at goes in
     let known : IsTrue old.ground_tells → IsTrue decisive → NothingPending old.told → IsTrue h.known = λ b d order. h.ran.trace.known_so ((b, owns_pending old.told order), d) in
-    let done = h.done ++ (x.line ++ line_feed ∷ []) in
-    let then_lines : (tail : Bytes) → whole_lines (done ++ tail) ≡ lines_in xs ++ whole_lines tail = λ tail. ap whole_lines (sym (regroup h.done x.line tail)) ∙ (h.lines_then (x.line ++ line_feed ∷ tail) ∙ (ap (λ u. lines_in h.exchanges ++ u) (whole_lines-line x.line tail t.no_line_feed) ∙ (sym (append_assoc (lines_in h.exchanges) (x.line ∷ []) (whole_lines tail)) ∙ ap (λ u. u ++ whole_lines tail) (sym (map-append (λ x. x.line) h.exchanges (x ∷ [])))))) in
+    let taken = done_more rule decisive old mid new lines lines' counts session h x u.took ++ pending lines' in
     record {
-      taken = done ++ pending lines';
+      taken = taken;
       exchanges = xs;
       first = first;
-      goes_on = goes_on_gone old new spawned held spawns gone.later trace.goes_on;
+      goes_on = goes_on_gone old new spawned held spawns gone.gone trace.goes_on;
       begins = opened_so xs;
       first_is = refl;
       replies = record {
-        bytes = λ b. h.bytes b ∙ (ap (λ (u : Bytes). h.done ++ u) (t.front (told_before _ _ h.ran.trace.goes_on.source_tells b)) ∙ (regroup h.done x.line (pending lines' ++ new.left) ∙ sym (append_assoc done (pending lines') new.left)));
-        begun = (whole_lines (pending lines'), then_lines (pending lines'), λ c. absurd (cc (c, cut)));
-        short = subst (All IsShort) (sym (map-append (λ x. x.line) h.exchanges (x ∷ []))) (All-append IsShort (lines_in h.exchanges) (x.line ∷ []) h.short (All-cons IsShort x.line [] t.short (All-nil IsShort)));
+        bytes = all_bytes rule decisive old mid new lines lines' counts session h x u.took;
+        begun = (whole_lines (pending lines'), then_lines rule decisive old mid new lines lines' counts session h x u.took (pending lines'), λ c. absurd (cc (c, cut)));
+        short = all_short rule decisive old mid new lines lines' counts session h x u.took;
         run = λ b. trace.run (h.ran.trace.known_so b);
-        placed = λ b slot live. subst (λ (cut_off : Bool). PlacesIn rule cut_off slot first xs) (sym cut) (placed_cut rule decisive h.known h.exchanges h.first h.repository h.view h.slot old mid counts session x h.ran b slot live);
-        watched = λ b. let is = h.ran.trace.known_so b in watched_cut reply_text (is_cut_off s) (is_cut_short s) cut old.told mid.told new.told (goes.files is).goes first h.exchanges x session.store.held h.repository (h.watched is) (h.said is ∙ ap (λ (u : Bytes). said old.told ++ u) (texts_same h.exchanges)) (h.ran.working is).holds (sym h.ran.phase)
-            (λ short order none slot live. u.space is short (h.ran.nothing_pending is order) none slot live);
-        said_part = λ b. let is = h.ran.trace.known_so b in let p = u.part is in record { whole = h.exchanges; cut = x ∷ []; part = p.0; unsaid = p.1; all = refl; one = omega arith; some = λ _ _ none. absurd (cc none); text = p.2 ∙ sym (append_nil (reply_text x.reply)); said_is = p.3 ∙ ap (λ (v : Bytes). v ++ p.0) (h.said is); silent = u.silent is };
+        watched = λ b start live. let is = h.ran.trace.known_so b in subst (λ (t : Slot). WatchedIn rule reply_text (is_unsaid s) (is_cut_short s) old.told new.told t first xs) (live_at rule decisive h.known h.exchanges h.first h.repository h.view h.slot old mid counts session h.ran is start live)
+            (watched_cut rule reply_text (is_unsaid s) (is_cut_short s) u.short old.told mid.told new.told (goes.files is).goes h.slot first h.exchanges x session.store.held h.repository h.view (h.watched is) (h.said is ∙ ap (λ (u : Bytes). said old.told ++ u) (texts_same h.exchanges)) (h.ran.working is).holds (sym h.ran.phase)
+            (λ order. u.settles is (h.ran.nothing_pending is order)) (λ order none slot live. u.space is (h.ran.nothing_pending is order) none slot live));
+        said_part = λ b. let is = h.ran.trace.known_so b in record { whole = h.exchanges; cut = x ∷ []; part = []; unsaid = reply_text x.reply; all = refl; one = omega arith; some = λ _ _ none. absurd (cc none); text = sym (append_nil (reply_text x.reply)); said_is = said_now mid.told new.told (goes.files is).goes (u.quiet is) ∙ (h.said is ∙ sym (append_nil (said old.told ++ texts_in h.exchanges))); silent = λ _. refl };
         said_all = λ b c. absurd (cc (c, cut));
       };
       reopens = record {
         any_moment = λ b d r stands order. let is = known b d order in of_opened (IsBehindOpening s xs) (h.opened_at is) old new h.first xs (h.ran.trace.began (h.ran.trace.tells is)) r stands
             (let was = h.over is in let later = (goes.files is).goes.later in omega (arith, was, later))
             (headline_turn (h.opened_at is) old.told mid.told new.told first h.exchanges x (h.headline is order) (goes.files is).goes (h.over is) (h.said is)
-            h.repository x.after.repository (ap (λ (state : State). state.repository) (h.ran.now_at is)) refl (u.turning is (h.ran.nothing_pending is order)));
+            h.repository x.after.repository (ap (λ (state : State). state.repository) (h.ran.now_at is)) refl (turns_quietly mid.told new.told _ h.repository x.after.repository (u.quiet is) (u.atomic is (h.ran.nothing_pending is order))));
         again = λ b d may. let is = known b d may.nothing_pending in u.again is (h.ran.nothing_pending is may.nothing_pending);
-        stands = λ b whole began. subst (λ (state : State). StandsFor new.told.held state.repository) (sym (after_more first h.exchanges x)) (u.stands (h.ran.trace.known_so b) whole);
-        clear = λ b whole clear. let is = h.ran.trace.known_so b in u.clear is whole (h.ran.clear is clear);
+        stands = λ b whole began. absurd (cc (whole, u.short));
+        clear = λ b whole. absurd (cc (whole, u.short));
         files = λ g. trace.files (h.ran.trace.known_so g);
       };
       notes = notes_of rule decisive h.known xs h.first s old new counts' trace (serving_on s old.counts mid.counts new.counts h.no_fault u.counted) spawned held spawns gone;
-      children = subst (λ (cut_off : Bool). AsksChildren cut_off old (let_go_as new spawned held spawns) xs) (sym cut) (asks_of rule decisive h.known xs h.first true old new counts' trace (happen_cut h.exchanges x h.ran.phases) spawned held spawns gone);
-      row = row (done ++ pending lines') (let_go_as new spawned held spawns);
+      children = subst (λ (cut_short : Bool). AsksChildren cut_short old (let_go_as new spawned held spawns) xs) (sym u.short)
+          (asks_of rule decisive h.known xs h.first true old new counts' trace (happen_cut h.first h.exchanges x h.ran.phases (subst (λ (phase : Phase). HappensCut phase x) h.ran.phase u.happens)) spawned held spawns gone);
+      row = row taken (let_go_as new spawned held spawns);
+      unopened = λ is none. absurd (not_none h.exchanges x none);
+      unwritten = λ told damage few. none_on old.told mid.told new.told (h.ran.unwritten told (only_one h.exchanges x few)) (u.unwritten (told_before _ _ h.ran.trace.goes_on.ground_tells told) damage);
+    }
+
+-- its reply could not be said, or not all of it
+serves_half : (rule : Rule) (decisive : Bool) (old mid new : Outside) (lines lines' : Lines) (counts counts' : TurnCounts) (session session' : Session) (h : Served rule decisive old mid lines counts session) → HalfSaid rule h.known mid new lines lines' counts counts' session session' h.repository h.view
+    → (spawned : spawn.Told) (held : Option ℕ) (spawns : SpawnCounts) → LetsGoAs new spawned held spawns → Serves rule decisive old (let_go_as new spawned held spawns) status.SayFault
+serves_half rule decisive old mid new lines lines' counts counts' session session' h u spawned held spawns gone =
+    let first = opened h.first in
+    let x = u.exchange in
+    let goes = u.exchanged.begun in
+    let xs = h.exchanges ++ x ∷ [] in
+    let ran = ran_more rule decisive h.known h.exchanges h.first h.repository h.view h.slot old mid new counts counts' session session' x u.after u.view h.ran h.no_fault u.exchanged in
+    let known : IsTrue old.ground_tells → IsTrue decisive → NothingPending old.told → IsTrue h.known = λ b d order. h.ran.trace.known_so ((b, owns_pending old.told order), d) in
+    record {
+      taken = done_more rule decisive old mid new lines lines' counts session h x u.took ++ pending lines';
+      exchanges = xs;
+      first = first;
+      goes_on = goes_on_gone old new spawned held spawns gone.gone ran.trace.goes_on;
+      begins = λ b. h.ran.trace.began b;
+      first_is = refl;
+      replies = record {
+        bytes = all_bytes rule decisive old mid new lines lines' counts session h x u.took;
+        begun = (whole_lines (pending lines'), then_lines rule decisive old mid new lines lines' counts session h x u.took (pending lines'), λ c. absurd (cc c));
+        short = all_short rule decisive old mid new lines lines' counts session h x u.took;
+        run = λ b. ran.trace.run (h.ran.trace.known_so b);
+        watched = λ b start live. let is = h.ran.trace.known_so b in let w = u.exchanged.watches is in subst (λ (t : Slot). WatchedIn rule reply_text true false old.told new.told t first xs) (live_at rule decisive h.known h.exchanges h.first h.repository h.view h.slot old mid counts session h.ran is start live)
+            (watched_all rule reply_text true false old.told new.told h.slot first xs session'.store.held.collection session'.store.held.slot session'.store.held.unswept u.view (watched_line rule decisive old mid new lines counts counts' session session' h x u.after u.view u.exchanged is)
+            (held_has session'.store.held u.after new.told (u.exchanged.working is).holds) w.answered w.by_now (λ no. absurd (cc no)) (λ held. w.lent_behind (subst IsHeldIn (after_more first h.exchanges x) held)));
+        said_part = λ b. let is = h.ran.trace.known_so b in let p = u.part is in record { whole = h.exchanges; cut = x ∷ []; part = p.0; unsaid = p.1; all = refl; one = omega arith; some = λ _ _ none. absurd (cc none); text = p.2 ∙ sym (append_nil (reply_text x.reply)); said_is = p.3 ∙ ap (λ (v : Bytes). v ++ p.0) (h.said is); silent = λ short. absurd (cc short) };
+        said_all = λ b c. absurd (cc c);
+      };
+      reopens = record {
+        any_moment = λ b d r stands order. let is = known b d order in of_opened (IsBehindOpening status.SayFault xs) (h.opened_at is) old new h.first xs (h.ran.trace.began (h.ran.trace.tells is)) r stands
+            (let was = h.over is in let later = (goes.files is).goes.later in omega (arith, was, later))
+            (headline_turn (h.opened_at is) old.told mid.told new.told first h.exchanges x (h.headline is order) (goes.files is).goes (h.over is) (h.said is)
+            h.repository u.after (ap (λ (state : State). state.repository) (h.ran.now_at is)) (ap (λ (state : State). state.repository) (sym (u.exchanged.now_at is))) (u.turning is (h.ran.nothing_pending is order)));
+        again = λ b d may. let is = known b d may.nothing_pending in record { repository = u.after; stands = (u.exchanged.working is).holds.stands; nothing_pending = ran.nothing_pending is may.nothing_pending };
+        stands = λ b whole began. let is = h.ran.trace.known_so b in subst (λ (state : State). StandsFor new.told.held state.repository) (ran.now_at is) (u.exchanged.working is).holds.stands;
+        clear = λ b whole clear. let is = h.ran.trace.known_so b in cleared_at new.told session'.store.held (held_has session'.store.held u.after new.told (u.exchanged.working is).holds) (ran.clear is clear);
+        files = λ g. ran.trace.files (h.ran.trace.known_so g);
+      };
+      notes = notes_of rule decisive h.known xs h.first status.SayFault old new counts' ran.trace (serving_on status.SayFault old.counts mid.counts new.counts h.no_fault u.counted) spawned held spawns gone;
+      children = asks_of rule decisive h.known xs h.first false old new counts' ran.trace (happen_all false xs ran.phases) spawned held spawns gone;
+      row = tt;
+      unopened = λ is. absurd (cc is);
+      unwritten = λ told damage. absurd damage;
     }
 
 -- how a run ends
-pub serves_stop : (rule : Rule) (decisive : Bool) (s : Status) (old mid new : Outside) (lines lines' : Lines) (counts counts' : TurnCounts) (session : Session) (h : Served rule decisive old mid lines counts session) → Stops rule s h.known mid new lines lines' counts counts' session.store.held (state_in session h.repository h.view)
+pub serves_stop : (rule : Rule) (decisive : Bool) → (IsTrue decisive → IsDecisive rule) → (s : Status) (old mid new : Outside) (lines lines' : Lines) (counts counts' : TurnCounts) (session session' : Session) (h : Served rule decisive old mid lines counts session) → Stops rule s h.known mid new lines lines' counts counts' session session' h.repository h.view
     → (spawned : spawn.Told) (held : Option ℕ) (spawns : SpawnCounts) → LetsGoAs new spawned held spawns → Serves rule decisive old (let_go_as new spawned held spawns) s
-serves_stop rule decisive status.SayFault old mid new lines lines' counts counts' session h u = serves_unsaid rule decisive status.SayFault old mid new lines lines' counts counts' session h refl (λ xs b. h.ran.trace.began b) u (λ taken last. tt)
-serves_stop rule decisive status.GroundFault old mid new lines lines' counts counts' session h u = serves_unsaid rule decisive status.GroundFault old mid new lines lines' counts counts' session h refl (λ xs. inr h.ran.trace.began) u (λ taken last. tt)
-serves_stop rule decisive (status.DamagedRecord at) old mid new lines lines' counts counts' session h u = serves_unsaid rule decisive (status.DamagedRecord at) old mid new lines lines' counts counts' session h refl (λ xs b. h.ran.trace.began b) u.0 (λ taken last b. u.1 (h.ran.trace.known_so b))
-serves_stop rule decisive (status.DamagedName at want got) old mid new lines lines' counts counts' session h u = serves_unsaid rule decisive (status.DamagedName at want got) old mid new lines lines' counts counts' session h refl (λ xs b. h.ran.trace.began b) u.0 (λ taken last b. u.1 (h.ran.trace.known_so b))
-serves_stop rule decisive status.Done old mid new lines lines' counts counts' session h u = serves_stopped rule decisive status.Done old mid new lines lines' counts counts' session h u
-serves_stop rule decisive status.Unfinished old mid new lines lines' counts counts' session h u = serves_stopped rule decisive status.Unfinished old mid new lines lines' counts counts' session h u
-serves_stop rule decisive (status.Limit l) old mid new lines lines' counts counts' session h u = serves_stopped rule decisive (status.Limit l) old mid new lines lines' counts counts' session h u
-serves_stop rule decisive status.ReadFault old mid new lines lines' counts counts' session h u = serves_stopped rule decisive status.ReadFault old mid new lines lines' counts counts' session h u
-serves_stop rule decisive status.Usage old mid new lines lines' counts counts' session h u = serves_stopped rule decisive status.Usage old mid new lines lines' counts counts' session h u
-serves_stop rule decisive status.NoStore old mid new lines lines' counts counts' session h u = serves_stopped rule decisive status.NoStore old mid new lines lines' counts counts' session h u
-serves_stop rule decisive (status.Damaged file at) old mid new lines lines' counts counts' session h u = serves_stopped rule decisive (status.Damaged file at) old mid new lines lines' counts counts' session h u
-serves_stop rule decisive status.DamagedJob old mid new lines lines' counts counts' session h u = serves_stopped rule decisive status.DamagedJob old mid new lines lines' counts counts' session h u
-serves_stop rule decisive status.Memory old mid new lines lines' counts counts' session h u = serves_stopped rule decisive status.Memory old mid new lines lines' counts counts' session h u
-serves_stop rule decisive status.Exists old mid new lines lines' counts counts' session h u = serves_stopped rule decisive status.Exists old mid new lines lines' counts counts' session h u
+serves_stop rule decisive by_rule status.SayFault old mid new lines lines' counts counts' session session' h u = serves_half rule decisive old mid new lines lines' counts counts' session session' h u
+serves_stop rule decisive by_rule status.GroundFault old mid new lines lines' counts counts' session session' h u = serves_cut rule decisive status.GroundFault old mid new lines lines' counts counts' session h refl (λ xs. inr h.ran.trace.began) u (λ taken last. tt)
+serves_stop rule decisive by_rule (status.DamagedRecord at) old mid new lines lines' counts counts' session session' h u = serves_cut rule decisive (status.DamagedRecord at) old mid new lines lines' counts counts' session h refl (λ xs b. h.ran.trace.began b) u.0 (λ taken last b. u.1 (h.ran.trace.known_so b))
+serves_stop rule decisive by_rule (status.DamagedName at want got) old mid new lines lines' counts counts' session session' h u = serves_cut rule decisive (status.DamagedName at want got) old mid new lines lines' counts counts' session h refl (λ xs b. h.ran.trace.began b) u.0 (λ taken last. ((λ b. u.1 (h.ran.trace.known_so b)), λ sure. u.2 (by_rule sure)))
+serves_stop rule decisive by_rule status.Done old mid new lines lines' counts counts' session session' h u = serves_stopped rule decisive status.Done old mid new lines lines' counts counts' session h u
+serves_stop rule decisive by_rule status.Unfinished old mid new lines lines' counts counts' session session' h u = serves_stopped rule decisive status.Unfinished old mid new lines lines' counts counts' session h u
+serves_stop rule decisive by_rule (status.Limit l) old mid new lines lines' counts counts' session session' h u = serves_stopped rule decisive (status.Limit l) old mid new lines lines' counts counts' session h u
+serves_stop rule decisive by_rule status.ReadFault old mid new lines lines' counts counts' session session' h u = serves_stopped rule decisive status.ReadFault old mid new lines lines' counts counts' session h u
+serves_stop rule decisive by_rule status.Usage old mid new lines lines' counts counts' session session' h u = serves_stopped rule decisive status.Usage old mid new lines lines' counts counts' session h u
+serves_stop rule decisive by_rule status.NoStore old mid new lines lines' counts counts' session session' h u = serves_stopped rule decisive status.NoStore old mid new lines lines' counts counts' session h u
+serves_stop rule decisive by_rule (status.Damaged file at) old mid new lines lines' counts counts' session session' h u = serves_stopped rule decisive (status.Damaged file at) old mid new lines lines' counts counts' session h u
+serves_stop rule decisive by_rule status.DamagedJob old mid new lines lines' counts counts' session session' h u = serves_stopped rule decisive status.DamagedJob old mid new lines lines' counts counts' session h u
+serves_stop rule decisive by_rule status.Memory old mid new lines lines' counts counts' session session' h u = serves_stopped rule decisive status.Memory old mid new lines lines' counts counts' session h u
+serves_stop rule decisive by_rule status.Exists old mid new lines lines' counts counts' session session' h u = serves_stopped rule decisive status.Exists old mid new lines lines' counts counts' session h u
 
 -- ---- the store that is opened
 
@@ -393,7 +479,7 @@ ends_by_script decisive sure status.Exists old new taken r n told stands calm = 
 ends_by_script decisive sure status.NoStore old new taken r n told stands calm = absurd (stands_open old.told.held stands.0 stands.1 (r.1 told.0))
 ends_by_script decisive sure (status.Damaged file at) old new taken r n told stands calm = absurd (not_damaged old.told.held stands.1.standing file at (r.1 told))
 ends_by_script decisive sure (status.DamagedRecord at) old new taken r n told stands calm = absurd (r (told, sure))
-ends_by_script decisive sure (status.DamagedName at want got) old new taken r n told stands calm = absurd (r (told, sure))
+ends_by_script decisive sure (status.DamagedName at want got) old new taken r n told stands calm = absurd (r.0 (told, sure))
 ends_by_script decisive sure status.ReadFault old new taken r n told stands calm = absurd (calm.read r.1)
 ends_by_script decisive sure status.SayFault old new taken r n told stands calm = absurd (calm.say n.rose)
 ends_by_script decisive sure status.GroundFault old new taken r n told stands calm = absurd (calm.file n.rose)

@@ -6,35 +6,29 @@ use Rattle.ip_ground.specs.declared.names.GroundFault.{GroundFault}
 use Rattle.ip_ground.specs.Counts.{SayFault}
 use Rattle.ip_ground.specs.Told.{Told}
 use Rattle.ip_ground.specs.Calls.{Says}
-use Rattle.ip_ground.proofs.Spans.{lending_now}
 use Rattle.ip_image.specs.declared.counts.TurnCounts.{TurnCounts}
 use Rattle.ip_image.specs.Pending.{NothingPending}
 use Rattle.ip_spec.specs.Merge.{Rule}
 use Rattle.ip_spec.specs.Path.{Bytes}
 use Rattle.ip_spec.specs.Repository.{Repository}
 use Rattle.ip_spec.specs.View.{View}
-use Rattle.ip_spec.specs.Machine.{State}
 use Rattle.ip_spec.specs.Text.{reply_text}
-use Rattle.ip_image.specs.Standing.{StandsFor}
-use Rattle.ip_image.specs.Headline.{Turning}
 use Rattle.ip_held.specs.Sweeping.{KeepsFiles}
-use Rattle.ip_held.proofs.Recovering.{held_has}
 use Rattle.ip_session.specs.declared.session.Session.{Session}
-use Rattle.ip_session.specs.Session.{IsWorking, state_in}
+use Rattle.ip_session.specs.Session.{IsWorking}
 use Rattle.ip_app.specs.declared.lines.Lines.{Lines}
 use Rattle.ip_app.specs.declared.statuses.Status.TheVariants as status
 use Rattle.ip_app.specs.Exchanging.{Replied}
 use Rattle.ip_app.specs.Outside.{Outside}
 use Rattle.ip_app.specs.Pending.{pending}
 use Rattle.ip_app.specs.Reading.{GetsLine}
-use Rattle.ip_app.specs.Serving.{Took, TurnedIn, Unsaid}
+use Rattle.ip_app.specs.Serving.{Took, TurnedIn, HalfSaid}
 use Rattle.ip_app.specs.Turns.{turn_counts}
-use Rattle.ip_app.proofs.Cleared.{clear_along, cleared_at}
 use Rattle.ip_app.proofs.Counting.{say_counts, serving_on, say_falls, falls_same, removals_on, removals_same, counts_same}
 use Rattle.ip_app.proofs.Moments.{order_says, turned_moments}
 use Rattle.ip_app.proofs.RunLemmas.{keeps_said}
 use Rattle.ip_app.proofs.SameFiles.{working_along}
-use Rattle.ip_app.proofs.TurnLemmas.{told_as, begun_along, exchanged_along, said_of, part_of}
+use Rattle.ip_app.proofs.TurnLemmas.{told_as, exchanged_along, said_of, part_of}
 
 pub took_of : (old new : Outside) (lines lines' : Lines) (line : Bytes) → GetsLine line old.source_tells (pending lines ++ old.left) (pending lines' ++ new.left) → lines'.taken + length (pending lines) ≡ lines.taken + (length line + 1) + length (pending lines') → Took old new lines lines' line
 took_of old new lines lines' line gets count = record { front = gets.front; no_line_feed = gets.no_line_feed; short = gets.short; count = count }
@@ -46,9 +40,6 @@ module _ (rule : Rule) (known : Bool) (old mid : Outside) (read text shown : Byt
 
   took_it : Took old (told_as mid left read_faults told counts) lines lines' h.exchange.line
   took_it = subst (λ (l : Bytes). Took old (told_as mid left read_faults told counts) lines lines' l) (sym (h.line_is ∙ read_is)) took
-
-  after_is : IsTrue known → h.after ≡ h.exchange.after.repository
-  after_is is = ap (λ (state : State). state.repository) (sym (h.exchanged.now_at is))
 
   module _ (result : Result (Unit {0}) GroundFault) (says : IsTrue known → Says shown result mid.told told) where
     files : IsTrue known → KeepsFiles mid.told told
@@ -73,22 +64,14 @@ module _ (rule : Rule) (known : Bool) (old mid : Outside) (read text shown : Byt
   }
 
   pub left_unsaid : (fault : GroundFault) (says : IsTrue known → Says shown (Err fault) mid.told told) → mid.counts.say_faults ≤ 2 ^ 64 - 1 → SayFault mid.counts counts
-      → Unsaid rule status.SayFault known old (told_as mid left read_faults told counts) lines lines' c c' s.store.held (state_in s r v)
+      → HalfSaid rule known old (told_as mid left read_faults told counts) lines lines' c c' s s' r v
   left_unsaid fault says small counted = record {
     exchange = h.exchange;
+    after = h.after;
+    view = h.view;
     took = took_it;
-    begun = begun_along rule known old mid c c' left read_faults told counts reads (files (Err fault) says) (say_falls mid.counts counts small counted) (counts_same mid.counts counts mid.spawns counted.file_faults counted.remove_faults) counted.bound (state_in s r v) h.exchange h.exchanged.begun;
+    exchanged = exchanged_along rule known old mid c c' left read_faults told counts reads (files (Err fault) says) (say_falls mid.counts counts small counted) (counts_same mid.counts counts mid.spawns counted.file_faults counted.remove_faults) counted.bound s s' r v h.exchange h.after h.view (works (Err fault) says) (order (Err fault) says) (λ is. (says is).files) (λ is. (says is).lending) h.exchanged;
     counted = serving_on status.SayFault old.counts mid.counts counts h.no_fault (say_counts mid.counts counts counted);
     part = λ is. part_of old.told mid.told told (h.exchanged.begun.files is) (h.quiet is) shown (Err fault) (says is) _ (same ∙ h.text_is);
-    silent = λ is cut_short. absurd (cc cut_short);
-    space = λ is cut_short. absurd (cc cut_short);
-    stands = λ is whole. subst (λ (q : Repository). StandsFor told.held q) (after_is is) (works (Err fault) says is (h.exchanged.working is)).holds.stands;
-    clear = λ is whole cleared. cleared_at told s'.store.held (held_has s'.store.held h.after told (works (Err fault) says is (h.exchanged.working is)).holds)
-        (clear_along mid.told told (λ file. ((says is).files file).held) (λ attempt. lending_now mid.told told (says is).goes attempt ((says is).lending attempt)) s'.store.held.slot s'.store.held.unswept (h.exchanged.clear is cleared));
-    turning = λ is none. subst (λ (q : Repository). Turning old.told told (reply_text h.exchange.reply) r q) (after_is is) (turned_moments mid.told told shown (Err fault) (says is) old.told (h.exchanged.begun.files is).goes (h.quiet is) _ (same ∙ h.text_is) r h.after (h.atomic is none) s'.store.held (h.exchanged.working is).holds (h.exchanged.nothing_pending is none));
-    again = λ is none. record {
-      repository = h.after;
-      stands = (works (Err fault) says is (h.exchanged.working is)).holds.stands;
-      nothing_pending = order (Err fault) says is (h.exchanged.nothing_pending is none);
-    };
+    turning = λ is none. turned_moments mid.told told shown (Err fault) (says is) old.told (h.exchanged.begun.files is).goes (h.quiet is) _ (same ∙ h.text_is) r h.after (h.atomic is none) s'.store.held (h.exchanged.working is).holds (h.exchanged.nothing_pending is none);
   }

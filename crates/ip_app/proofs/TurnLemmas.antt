@@ -22,7 +22,6 @@ use Rattle.ip_spec.specs.Path.{Bytes}
 use Rattle.ip_spec.specs.Machine.{State}
 use Rattle.ip_spec.specs.Line.{IsLineOf}
 use Rattle.ip_spec.specs.Script.{LineStep}
-use Rattle.ip_held.specs.declared.held.Held.{Held}
 use Rattle.ip_held.specs.Sweeping.{KeepsFiles}
 use Rattle.ip_held.proofs.KeptFiles.{keeps_on, keeps_itself}
 use Rattle.ip_held.proofs.Recovering.{held_has}
@@ -31,19 +30,20 @@ use Rattle.ip_session.specs.declared.session.SessionEnd.{SessionEnd}
 use Rattle.ip_app.specs.declared.statuses.Status.{Status}
 use Rattle.ip_app.specs.declared.statuses.Status.TheVariants as status
 use Rattle.ip_app.specs.Exchanges.{Exchange}
+use Rattle.ip_merge.specs.Rules.{IsDecisive}
 use Rattle.ip_app.specs.Outside.{Outside, GoesOn}
 use Rattle.ip_session.specs.declared.session.Session.{Session}
 use Rattle.ip_session.specs.Asking.{starts_in}
-use Rattle.ip_session.specs.Session.{state_in, IsWorking, conditions_with, EndsBy, IsViewIn, IsJudgedIn, IsSettledIn, KeepsSpaceIn, GoesIn, CutIn}
+use Rattle.ip_session.specs.Session.{state_in, IsWorking, conditions_with, EndsBy, OnlyIn, TouchesIn, StaysSettled, IsViewIn, IsJudgedIn, IsSettledIn, KeepsSpaceIn, GoesIn, CutIn}
 use Rattle.ip_image.specs.Pending.{NothingPending}
 use Rattle.ip_image.specs.Headline.{IsAtomic}
 use Rattle.ip_spec.specs.Repository.{Repository}
 use Rattle.ip_spec.specs.View.{View}
-use Rattle.ip_app.specs.Serving.{SaysPart, Took, Stopped, Unsaid, Stops}
+use Rattle.ip_app.specs.Serving.{SaysPart, Took, Stopped, CutOff, Stops}
 use Rattle.ip_app.specs.Exchanging.{is_cut_short, ended_status, Begun, Exchanged, CutShort, CutsShort}
 use Rattle.ip_app.specs.Turns.{turn_counts, IsLater}
 use Rattle.ip_app.proofs.Cleared.{clear_along}
-use Rattle.ip_app.proofs.Counting.{later_of}
+use Rattle.ip_app.proofs.Counting.{later_of, cut_counts}
 use Rattle.ip_app.proofs.Happened.{exchange_of}
 use Rattle.ip_app.proofs.Judging.{watches_along}
 use Rattle.ip_app.proofs.RanOn.{append_nil}
@@ -109,12 +109,8 @@ module _ (rule : Rule) (known : Bool) (old mid : Outside) (c c' : TurnCounts) (l
   exchanged_along s s' r v x after view works order stays lends h = record {
     begun = begun_along (state_in s r v) x h.begun;
     now_at = h.now_at;
-    seen = h.seen;
-    placed = h.placed;
-    starts = h.starts;
-    hears = h.hears;
     goes_on_by = h.goes_on_by;
-    watches = λ is. watches_along old.told mid.told told (files is).goes (state_in s r v) s.store.held.collection s'.store.held.collection s.store.held.slot s'.store.held.slot s.store.held.unswept x (h.nothing_pending is) (stays is) (held_has s'.store.held after mid.told (h.working is).holds) (h.watches is);
+    watches = λ is. watches_along rule old.told mid.told told (h.begun.files is).goes (files is).goes (lends is) (state_in s r v) v view s.store.held.collection s'.store.held.collection s.store.held.slot s'.store.held.slot s.store.held.unswept s'.store.held.unswept x (h.nothing_pending is) (stays is) (held_has s'.store.held after mid.told (h.working is).holds) (h.watches is);
     clear = λ is cleared. clear_along mid.told told (λ file. (stays is file).held) (λ attempt. lending_now mid.told told (files is).goes attempt (lends is attempt)) s'.store.held.slot s'.store.held.unswept (h.clear is cleared);
     happens = h.happens;
     phase = h.phase;
@@ -137,16 +133,12 @@ module _ (old mid new : Told) (files : KeepsFiles old mid) (still : KeepsSaid ol
   pub part_of : (reply : Bytes) → text ≡ reply → SaysPart reply (said old) (said new)
   part_of reply e = subst (λ (t : Bytes). SaysPart t (said old) (said new)) e (subst (λ (s : Bytes). SaysPart text s (said new)) quiet (says_part text r mid new says))
 
--- nothing of the reply was said
-abbrev pub nothing_said : (old new : Told) (reply : Bytes) → KeepsPast old new → KeepsSaid old new → SaysPart reply (said old) (said new)
-nothing_said old new reply goes still = ([], reply, refl, said_now old new goes still ∙ sym (append_nil (said old)))
-
-pub stops_reading : (rule : Rule) (s : Status) (known : Bool) (old new : Outside) (lines lines' : Lines) (counts counts' : TurnCounts) (store : Held) (state : State) → Stopped s known old new lines lines' counts counts' state → Stops rule s known old new lines lines' counts counts' store state
-stops_reading rule status.SayFault known old new lines lines' counts counts' store state t = absurd t.ends
-stops_reading rule status.GroundFault known old new lines lines' counts counts' store state t = absurd t.ends
-stops_reading rule (status.DamagedRecord at) known old new lines lines' counts counts' store state t = absurd t.ends
-stops_reading rule (status.DamagedName at want got) known old new lines lines' counts counts' store state t = absurd t.ends
-stops_reading rule _ known old new lines lines' counts counts' store state t = t
+pub stops_reading : (rule : Rule) (t : Status) (known : Bool) (old new : Outside) (lines lines' : Lines) (counts counts' : TurnCounts) (s s' : Session) (r : Repository) (v : View) → Stopped t known old new lines lines' counts counts' (state_in s r v) → Stops rule t known old new lines lines' counts counts' s s' r v
+stops_reading rule status.SayFault known old new lines lines' counts counts' s s' r v h = absurd h.ends
+stops_reading rule status.GroundFault known old new lines lines' counts counts' s s' r v h = absurd h.ends
+stops_reading rule (status.DamagedRecord at) known old new lines lines' counts counts' s s' r v h = absurd h.ends
+stops_reading rule (status.DamagedName at want got) known old new lines lines' counts counts' s s' r v h = absurd h.ends
+stops_reading rule _ known old new lines lines' counts counts' s s' r v h = h
 
 -- a session's end cut the command short
 pub ended_short : (end : SessionEnd) → is_cut_short (ended_status end) ≡ true
@@ -155,13 +147,13 @@ ended_short (SessionEnd.Damaged at None) = refl
 ended_short (SessionEnd.Damaged at (Some (want, got))) = refl
 
 pub cuts_short : (rule : Rule) (end : SessionEnd) (s : Status) (known : Bool) (held : Type 0) (old new : Outside) (line : Bytes) (counts counts' : TurnCounts) (state : State) → s ≡ ended_status end → CutShort rule (ended_status end) known old new line counts counts' state
-    → (IsTrue known → held) → (IsTrue known → EndsBy held end) → CutsShort rule s known old new line counts counts' state
-cuts_short rule end s known held old new line counts counts' state e short holds ends = subst (λ (t : Status). CutsShort rule t known old new line counts counts' state) (sym e) (by_end end short ends)
+    → (IsTrue known → held) → (IsTrue known → IsDecisive rule) → (IsDecisive rule → EndsBy held end) → CutsShort rule s known old new line counts counts' state
+cuts_short rule end s known held old new line counts counts' state e short holds decisive ends = subst (λ (t : Status). CutsShort rule t known old new line counts counts' state) (sym e) (by_end end short ends)
   where
-    by_end : (end : SessionEnd) → CutShort rule (ended_status end) known old new line counts counts' state → (IsTrue known → EndsBy held end) → CutsShort rule (ended_status end) known old new line counts counts' state
+    by_end : (end : SessionEnd) → CutShort rule (ended_status end) known old new line counts counts' state → (IsDecisive rule → EndsBy held end) → CutsShort rule (ended_status end) known old new line counts counts' state
     by_end SessionEnd.Ground u h = u
-    by_end (SessionEnd.Damaged at None) u h = (u, λ is. h is (holds is))
-    by_end (SessionEnd.Damaged at (Some (want, got))) u h = (u, λ is. h is (holds is))
+    by_end (SessionEnd.Damaged at None) u h = (u, λ is. (h (decisive is)).0 (holds is))
+    by_end (SessionEnd.Damaged at (Some (want, got))) u h = (u, λ is. (h (decisive is)).0 (holds is), λ sure. (h sure).1)
 
 -- a fault cut it short, and so is told
 pub short_of : (rule : Rule) (s : Status) (known : Bool) (old new : Outside) (line : Bytes) (counts counts' : TurnCounts) (state : State) → CutsShort rule s known old new line counts counts' state → (is_cut_short s ≡ true) × CutShort rule s known old new line counts counts' state
@@ -181,29 +173,30 @@ short_of rule status.Unfinished known old new line counts counts' state h = absu
 short_of rule status.Exists known old new line counts counts' state h = absurd h
 
 -- the line of a source
-pub stops_short : (rule : Rule) (s : Status) (known : Bool) (old new : Outside) (line read : Bytes) (lines lines' : Lines) (counts counts' : TurnCounts) (store : Held) (state : State) (left : Bytes) (read_faults : ℕ) → CutsShort rule s known old new read counts counts' state → read ≡ line
-    → Took old (told_as new left read_faults new.told new.counts) lines lines' line → read_faults ≡ new.read_faults → Stops rule s known old (told_as new left read_faults new.told new.counts) lines lines' counts counts' store state
-stops_short rule s known old new line read lines lines' counts counts' store state left read_faults h read_is took same = by_status s h
+pub stops_short : (rule : Rule) (t : Status) (known : Bool) (old new : Outside) (line read : Bytes) (lines lines' : Lines) (counts counts' : TurnCounts) (s s' : Session) (r : Repository) (v : View) (left : Bytes) (read_faults : ℕ) → CutsShort rule t known old new read counts counts' (state_in s r v) → read ≡ line
+    → Took old (told_as new left read_faults new.told new.counts) lines lines' line → read_faults ≡ new.read_faults → Stops rule t known old (told_as new left read_faults new.told new.counts) lines lines' counts counts' s s' r v
+stops_short rule t known old new line read lines lines' counts counts' s s' r v left read_faults h read_is took same = by_status t h
   where
-    whole : (s : Status) → is_cut_short s ≡ true → CutShort rule s known old new read counts counts' state → Unsaid rule s known old (told_as new left read_faults new.told new.counts) lines lines' counts counts' store state
-    whole s is_short u = record {
+    whole : (t : Status) → is_cut_short t ≡ true → CutShort rule t known old new read counts counts' (state_in s r v) → CutOff rule t known old (told_as new left read_faults new.told new.counts) lines lines' counts counts' (state_in s r v)
+    whole t is_short u = record {
+      short = is_short;
       exchange = u.exchange;
       took = subst (λ (l : Bytes). Took old (told_as new left read_faults new.told new.counts) lines lines' l) (sym (u.line_is ∙ read_is)) took;
-      begun = begun_along rule known old new counts counts' left read_faults new.told new.counts same (λ is. keeps_itself new.told) (falls_itself new.counts) refl refl state u.exchange u.begun;
-      counted = u.counted;
-      part = λ is. nothing_said _ _ _ (u.begun.files is).goes (u.quiet is);
-      silent = λ is cut_off. refl;
-      stands = λ is other. absurd (cc (other, is_short));
-      clear = λ is other. absurd (cc (other, is_short));
-      turning = λ is order. turns_quietly old.told new.told _ state.repository u.exchange.after.repository (u.quiet is) (u.atomic is order);
+      begun = begun_along rule known old new counts counts' left read_faults new.told new.counts same (λ is. keeps_itself new.told) (falls_itself new.counts) refl refl (state_in s r v) u.exchange u.begun;
+      counted = cut_counts t old.counts new.counts u.counted;
+      unwritten = u.unwritten;
+      happens = u.happens;
+      quiet = u.quiet;
+      atomic = u.atomic;
       again = u.again;
-      space = λ is cut_off order none slot live. u.space is order none slot live;
+      settles = u.settles;
+      space = u.space;
     }
 
-    by_status : (s : Status) → CutsShort rule s known old new read counts counts' state → Stops rule s known old (told_as new left read_faults new.told new.counts) lines lines' counts counts' store state
+    by_status : (t : Status) → CutsShort rule t known old new read counts counts' (state_in s r v) → Stops rule t known old (told_as new left read_faults new.told new.counts) lines lines' counts counts' s s' r v
     by_status status.GroundFault h = whole status.GroundFault refl h
     by_status (status.DamagedRecord at) h = (whole (status.DamagedRecord at) refl h.0, h.1)
-    by_status (status.DamagedName at want got) h = (whole (status.DamagedName at want got) refl h.0, h.1)
+    by_status (status.DamagedName at want got) h = (whole (status.DamagedName at want got) refl h.0, h.1, h.2)
     by_status status.Done h = absurd h
     by_status status.Usage h = absurd h
     by_status status.NoStore h = absurd h
@@ -228,6 +221,8 @@ pub record GoesTo (rule : Rule) (old new : Told) (s s' : Session) (r : Repositor
   pub gives : LineStep IsLineOf rule (state_in s r v) line (conditions_with s'.met x.2) reply (state_in s' x.0 x.1)
   pub working : IsWorking new s' x.0 x.1
   pub seen : IsViewIn r v line reply x.1
+  pub only : OnlyIn s.store.held old new line reply
+  pub stays : StaysSettled s.store.held.collection old new
   pub judged : IsJudgedIn old new s s' r v x.2
   pub settled : IsSettledIn new s s' reply
   pub space : KeepsSpaceIn old new s'
@@ -239,11 +234,13 @@ pub record GoesTo (rule : Rule) (old new : Told) (s s' : Session) (r : Repositor
 pub went_to : (rule : Rule) (known : Bool) (old new : Told) (s s' : Session) (r : Repository) (v : View) (line : Bytes) (reply : Reply) → (IsTrue known → GoesIn rule old new s s' r v line reply)
     → (x : Repository × View × Option Difference) × (IsTrue known → GoesTo rule old new s s' r v line reply x)
 went_to rule known old new s s' r v line reply goes = settled (GoesTo rule old new s s' r v line reply) known (r, v, None)
-    (λ is. let h = goes is in ((h.after, h.view, h.difference), record { gives = h.gives; working = h.is_at; seen = h.seen; judged = h.judged; settled = h.settled; space = h.space; files = h.files; said = h.said; atomic = h.atomic; nothing_pending = h.nothing_pending }))
+    (λ is. let h = goes is in ((h.after, h.view, h.difference), record { gives = h.gives; working = h.is_at; seen = h.seen; only = h.only; stays = h.stays; judged = h.judged; settled = h.settled; space = h.space; files = h.files; said = h.said; atomic = h.atomic; nothing_pending = h.nothing_pending }))
 
 -- or it was cut short, with this reply, this state of the machine and this difference
 pub record CutTo (rule : Rule) (old new : Told) (s s' : Session) (r : Repository) (v : View) (line : Bytes) (x : Reply × State × Option Difference) : Type 0 where
   pub gives : LineStep IsLineOf rule (state_in s r v) line (conditions_with s'.met x.2) x.0 x.1
+  pub only : TouchesIn s.store.held old new line
+  pub stays : StaysSettled s.store.held.collection old new
   pub space : KeepsSpaceIn old new s'
   pub files : KeepsFiles old new
   pub said : KeepsSaid old new
@@ -252,4 +249,4 @@ pub record CutTo (rule : Rule) (old new : Told) (s s' : Session) (r : Repository
 pub cut_to : (rule : Rule) (known : Bool) (old new : Told) (s s' : Session) (r : Repository) (v : View) (line : Bytes) → (IsTrue known → CutIn rule old new s s' r v line)
     → (x : Reply × State × Option Difference) × (IsTrue known → CutTo rule old new s s' r v line x)
 cut_to rule known old new s s' r v line cut = settled (CutTo rule old new s s' r v line) known (Reply.Accepted, state_in s r v, None)
-    (λ is. let h = cut is in ((h.reply, h.after, h.difference), record { gives = h.gives; space = h.space; files = h.files; said = h.said; atomic = h.atomic }))
+    (λ is. let h = cut is in ((h.reply, h.after, h.difference), record { gives = h.gives; only = h.only; stays = h.stays; space = h.space; files = h.files; said = h.said; atomic = h.atomic }))

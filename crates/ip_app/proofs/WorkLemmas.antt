@@ -11,7 +11,7 @@ use Rattle.ip_ground.specs.declared.names.FileName.TheVariants.{Control, Chunk, 
 use Rattle.ip_ground.specs.Contents.{Content, Image}
 use Rattle.ip_ground.specs.Custody as custody
 use Rattle.ip_ground.specs.Custody.{Custody, IsOfAttempt}
-use Rattle.ip_ground.specs.Counts.{Noted, as_nothing, as_fault, as_damage, Rose, FileFault, RemoveFault, NoneFalls}
+use Rattle.ip_ground.specs.Counts.{Noted, as_nothing, as_fault, as_damage, Rose, FileFault, RemoveFault, NoneFalls, binds}
 use Rattle.ip_ground.specs.Told.{Told, IsForeign, IsLoose, KeepsPast, ChangesOnly, NoFile}
 use Rattle.ip_ground.proofs.Spans.{only_on, only_more, only_nowhere, lending_now}
 use Rattle.ip_ground.proofs.Rising.{falls_itself}
@@ -122,10 +122,10 @@ counts_work dir worked s a mid b e same counted = subst (λ (t : Status). Counts
     by_answer (Err WorkFault.Damaged) h = bound_counts dir a b as_damage h
     by_answer (Err WorkFault.Memory) h = bound_counts dir a b as_nothing h
 
-pub bound_work : (dir : Bytes) (worked : Result Counts WorkFault) (a mid b : Noted) → mid ≡ bound_to dir a → CountsWork worked mid b → b.bound ≡ Some dir
+pub bound_work : (dir : Bytes) (worked : Result Counts WorkFault) (a mid b : Noted) → mid ≡ bound_to dir a → CountsWork worked mid b → b.bound ≡ binds dir (Some dir) a.bound
 bound_work dir worked a mid b same counted = by_answer worked (subst (λ (n : Noted). CountsWork worked n b) same counted)
   where
-    by_answer : (worked : Result Counts WorkFault) → CountsWork worked (bound_to dir a) b → b.bound ≡ Some dir
+    by_answer : (worked : Result Counts WorkFault) → CountsWork worked (bound_to dir a) b → b.bound ≡ binds dir (Some dir) a.bound
     by_answer (Ok counts) h = bound_still dir a b as_nothing h
     by_answer (Err WorkFault.Ground) (inl h) = h.bound
     by_answer (Err WorkFault.Ground) (inr h) = h.bound

@@ -2,7 +2,8 @@
 --     IsHeard phase reaped x      the child ended so: it was reaped in it, or had been
 --     HappensBy command phase x, Happens phase x      so of an exchange that began in this phase, by its command, and by its line
 --     AllHappen phase exchanges      of each of them
---     HappenIn is_cut_off exchanges      of all exchanges of a run, or of all but the last one
+--     CutBy command phase x, HappensCut phase x      so of one that a fault cut short.      phase_after phase exchanges      the phase behind them
+--     HappenIn is_cut_short exchanges      of all exchanges of a run
 --     started_in dir exchanges      the children that were started in them, in the folder of this name.      ends_in exchanges      how those ended that were reaped
 use Rattle.std.specs.Prelude.{◌≡◌, ◌≢◌, ◌⊎◌, ◌≤◌, Bool, false, List, [], ◌∷◌, ◌++◌, length, flat_map, Some, None, IsTrue, IsSome, Ok}
 use Rattle.ip_ground.specs.Counts.{Rose, RoseBy}
@@ -31,6 +32,7 @@ pub record HappensBy (command : Command) (phase : Phase) (x : Exchange) : Type 0
   pub running : x.turn.met.child ≡ Child.Running → Rose x.turn.before.spawner.running x.turn.after.spawner.running
   pub not_running : x.turn.met.child ≢ Child.Running → x.turn.after.spawner.running ≡ x.turn.before.spawner.running
   pub no_wait : command ≢ Command.Finish → x.turn.after.spawner.waits ≡ x.turn.before.spawner.waits
+  pub waited : command ≡ Command.Finish → x.reaped ≢ [] → Rose x.turn.before.spawner.waits x.turn.after.spawner.waits
   pub none_reaped : ¬ MayReap command → (x.reaped ≡ []) × (x.turn.after.spawner.reaps ≡ x.turn.before.spawner.reaps)
   -- what is met of it is what the spawner answered now, or what was kept
   pub heard : (reaped : Reaped) → x.turn.met.child ≡ Child.Ended reaped → IsHeard phase reaped x
@@ -50,13 +52,32 @@ abbrev pub AllHappen : Phase → List Exchange → Type 0
 AllHappen phase [] = Unit {0}
 AllHappen phase (x ∷ exchanges) = Happens phase x × AllHappen x.after.phase exchanges
 
-pub record HappenIn (is_cut_off : Bool) (exchanges : List Exchange) : Type 0 where
+-- by its command: what it met is what happened, though its reply is not told
+pub record CutBy (command : Command) (phase : Phase) (x : Exchange) : Type 0 where
+  pub running : x.turn.met.child ≡ Child.Running → Rose x.turn.before.spawner.running x.turn.after.spawner.running
+  pub not_running : x.turn.met.child ≢ Child.Running → x.turn.after.spawner.running ≡ x.turn.before.spawner.running
+  pub no_wait : command ≢ Command.Finish → x.turn.after.spawner.waits ≡ x.turn.before.spawner.waits
+  pub none_reaped : ¬ MayReap command → (x.reaped ≡ []) × (x.turn.after.spawner.reaps ≡ x.turn.before.spawner.reaps)
+  pub heard : (reaped : Reaped) → x.turn.met.child ≡ Child.Ended reaped → IsHeard phase reaped x
+  pub unheard : x.turn.met.child ≡ Child.Fault → Rose x.turn.before.spawner.spawn_faults x.turn.after.spawner.spawn_faults
+
+-- no child was started by a command that a fault cut short
+pub record HappensCut (phase : Phase) (x : Exchange) : Type 0 where
+  pub none_started : x.started ≡ []
+  pub command : (command : Command) → IsLineOf command x.line → CutBy command phase x
+
+abbrev pub phase_after : Phase → List Exchange → Phase
+phase_after phase [] = phase
+phase_after phase (x ∷ exchanges) = phase_after x.after.phase exchanges
+
+pub record HappenIn (is_cut_short : Bool) (exchanges : List Exchange) : Type 0 where
   pub whole : List Exchange
   pub cut : List Exchange
   pub all : whole ++ cut ≡ exchanges
   pub one : length cut ≤ 1
-  pub none : is_cut_off ≡ false → cut ≡ []
+  pub none : is_cut_short ≡ false → cut ≡ []
   pub happen : AllHappen Phase.Idle whole
+  pub happen_cut : (x : Exchange) → cut ≡ x ∷ [] → HappensCut (phase_after Phase.Idle whole) x
 
 abbrev pub started_in : Bytes → List Exchange → List Start
 started_in dir = flat_map (λ x. starts_in dir x.started)

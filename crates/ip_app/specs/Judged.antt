@@ -6,20 +6,25 @@
 --     IsJudgedAs told answered behind phase records job reaped x      what an exchange met of the child with this job is what it left, by these records
 --     IsSameFor job image other      the bytes that a child may read are the same.      ReadsSame told child until      so they are up to this moment.      IsHeldIn s      a child is held
 --     HasSweptIn x      a sweep was made behind it
---     Watches a b s before now slot slot' unswept x      so of an exchange that began in this state, between what is told before it and behind its reply
---     Watched old told said since s last x began answered image behind      and so of one in a run, by the moments at which it began and was answered, and what the files read as then
---     AllWatched says old told said since s last exchanges end      so of each of them, where this is said of a reply before the next command begins
+--     Point      a point of a run between two commands.      begun_at slot first      where it begins.      behind_it p x answered behind view slot unswept looked      behind an exchange.      point_of s view slot unswept last collection      by a collection
+--     looked_in collection      how many records were looked at.      IsCheckedTo records job before after left      behind a look that is not through
+--     IsAimed records phase job      where the horizon of a job lies.
+--     StaysFrom told t from, Settles a b      what was settled is so still.      IsUnsweptBehind x slot before now      what is unswept behind an exchange
+--     Watches rule a b s v view before now slot slot' unswept unswept' x      so of an exchange that began in this state, between what is told before it and behind its reply
+--     Watched rule old told said since p q x began answered image behind      and so of one in a run, between these points, by the moments at which it began and was answered, and what the files read as then
+--     AllWatched rule says old told said since p exchanges end      so of each of them, where this is said of a reply before the next command begins
 --     texts_by says exchanges      all that is said so.      says_nothing      nothing is
---     HearsNone is_cut_off is_cut_short cut      the last command heard of no child's end
---     WatchedIn says is_cut_off is_cut_short old new first exchanges      of all exchanges of a run, or of all but the last one
---     IsWatchedTo says old now first exchanges collection      so far: a collection that goes on is that of the last child
-use Rattle.std.specs.Prelude.{◌≡◌, ◌≢◌, ◌⊎◌, ℕ, ◌<◌, ◌≤◌, Bool, true, false, List, [], ◌∷◌, ◌++◌, length, Option, Some, None, IsTrue, IfSome, IsSomeAnd}
+--     HearsNone cut      the last command heard of no child's end
+--     WatchedIn rule says is_unsaid is_cut_short old new slot first exchanges      of all exchanges of a run, or of all but one that was cut short
+--     IsWatchedTo rule says old now slot first exchanges collection slot' unswept view      so far: a collection that goes on is that of the last child
+use Rattle.std.specs.Prelude.{◌≡◌, ◌≢◌, ◌⊎◌, ℕ, ◌+◌, ◌*◌, ◌<◌, ◌≤◌, Bool, true, false, List, [], ◌∷◌, ◌++◌, length, count_by, Option, Some, None, Ok, IsTrue, IsSome, IfSome, IsSomeAnd}
 use Rattle.ip_ground.specs.declared.names.FileName.{FileName}
 use Rattle.ip_ground.specs.declared.names.FileName.TheVariants.{Mapping, Prefix}
 use Rattle.ip_base.specs.declared.exit.Reaped.{Reaped}
 use Rattle.ip_ground.specs.Contents.{Image}
+use Rattle.ip_ground.specs.Custody as custody
 use Rattle.ip_ground.specs.Custody.{settled}
-use Rattle.ip_ground.specs.Told.{Told, said, lending, IsPossible}
+use Rattle.ip_ground.specs.Told.{Told, said, lending, IsPossible, IsSettledAs}
 use Rattle.ip_spawn.specs.declared.job.Job.{Job}
 use Rattle.ip_spec.specs.declared.command.Command.{Command}
 use Rattle.ip_spec.specs.declared.met.Child.TheVariants as Child
@@ -28,10 +33,12 @@ use Rattle.ip_spec.specs.declared.record.Record.TheVariants as record_of
 use Rattle.ip_spec.specs.declared.reply.Reply.{Reply}
 use Rattle.ip_spec.specs.Line.{IsLineOf}
 use Rattle.ip_spec.specs.Machine.{State, Phase, Conditions, Verdict, Limit, verdict_on}
+use Rattle.ip_spec.specs.Merge.{Rule}
 use Rattle.ip_spec.specs.Path.{Bytes}
 use Rattle.ip_spec.specs.Step.{phase_at}
 use Rattle.ip_spec.specs.TreeAt.{Records, present}
-use Rattle.ip_image.specs.Collection.{IsJudged}
+use Rattle.ip_spec.specs.View.{View, no_view}
+use Rattle.ip_image.specs.Collection.{IsJudged, IsKept}
 use Rattle.ip_image.specs.declared.run.Row.{Row}
 use Rattle.ip_image.specs.declared.slot.Slot.{Slot}
 use Rattle.ip_image.specs.Pending.{HasLive, SameChunks, SameSpace, NothingPending}
@@ -39,10 +46,16 @@ use Rattle.ip_image.specs.Slot.{layout_of}
 use Rattle.ip_image.specs.Standing.{MappingIs, StandsFor}
 use Rattle.ip_held.specs.declared.collection.Collection.{Collection}
 use Rattle.ip_held.specs.declared.collection.Unswept.{Unswept}
-use Rattle.ip_held.specs.Clear.{IsClear, IsClearAt, IsClearTo}
-use Rattle.ip_held.specs.Collecting.{phase_of, IsJobOf}
-use Rattle.ip_session.specs.Clearing.{SweepsBehind}
+use Rattle.ip_held.specs.Clear.{IsClear, IsClearAt, IsClearTo, unswept_in}
+use Rattle.ip_held.specs.Collecting.{phase_of, until, IsJobOf}
+use Rattle.ip_keep.specs.Keeping.{starts_between}
+use Rattle.ip_collects.specs.Finishing.{looked_at}
+use Rattle.ip_session.specs.Asking.{HasStarted, looks}
+use Rattle.ip_session.specs.Clearing.{SweepsBehind, unswept_behind}
+use Rattle.ip_session.specs.Placing.{PlacedIn}
+use Rattle.ip_session.specs.Session.{IsViewIn}
 use Rattle.ip_app.specs.Exchanges.{Exchange, conditions, after_all}
+use Rattle.ip_app.specs.Places.{StartsAt, HearsAt}
 
 -- by a command that was answered at this moment, when the files read as this
 pub record Started : Type 0 where
@@ -111,7 +124,59 @@ IsHeldIn s = (commit : ℕ) × (s.phase ≡ Phase.Collecting commit None)
 abbrev pub HasSweptIn : Exchange → Type 0
 HasSweptIn x = (command : Command) × IsLineOf command x.line × SweepsBehind command x.reply
 
-pub record Watches (a b : Told) (s : State) (before now : Option Collection) (slot slot' : Slot) (unswept : Unswept) (x : Exchange) : Type 0 where
+-- A point of a run between two commands: the machine's state, the view of the work's tree, the slot that is live, what is unswept, the child that was started last, and how many records of its job were looked at.
+pub record Point : Type 0 where
+  pub state : State
+  pub view : View
+  pub slot : Slot
+  pub unswept : Unswept
+  pub last : Option Started
+  pub looked : ℕ
+
+-- where a run begins
+abbrev pub begun_at : Slot → State → Point
+begun_at slot first = record { state = first; view = no_view; slot = slot; unswept = unswept_in slot; last = None; looked = 0 }
+
+-- and behind an exchange that was answered at this moment
+abbrev pub behind_it : Point → Exchange → (answered : ℕ) → Image → View → Slot → Unswept → ℕ → Point
+behind_it p x answered behind view slot unswept looked = record { state = x.after; view = view; slot = slot; unswept = unswept; last = last_started answered behind x.started p.last; looked = looked }
+
+-- how many records were looked at
+abbrev pub looked_in : Option Collection → ℕ
+looked_in None = 0
+looked_in (Some c) = looked_at c
+
+-- A check that is not through has looked at that many records more at least; more than that only where want of memory came in between. So it is answered so often at most.
+-- Of the records below the job's end those from its horizon on are looked at first, ascending.
+pub record IsCheckedTo (records : Records) (job : Job) (before after left : ℕ) : Type 0 where
+  pub more : before + looks ≤ after
+  pub few : (kept : Records) → IsKept records job.horizon job.end kept → after ≤ count_by (starts_between job.horizon job.end) records + 2 * length kept
+  -- where the next of these begins, or the end; from there on so many bytes are left
+  pub next : ℕ
+  pub rest : left + next ≡ job.end
+  pub first : next < job.end → (after ≡ count_by (starts_between job.horizon next) records) × IsSome (present records next)
+  pub all : next ≡ job.end → count_by (starts_between job.horizon job.end) records ≤ after
+
+-- The horizon of a child's job is where the record of its commit lies.
+pub record IsAimed (records : Records) (phase : Phase) (job : Job) : Type 0 where
+  pub commit : CommitRecord
+  pub here : present records job.horizon ≡ Some (record_of.Commit commit)
+  pub number : phase_at phase ≡ Some commit.number
+
+-- what was settled at a moment is so from another one on, by what its files held
+abbrev pub StaysFrom : Told → (t from : ℕ) → Type 0
+StaysFrom told t from = (attempt : ℕ) (pair : Image) → IsSettledAt told t attempt pair → (u : ℕ) → from ≤ u → u ≤ told.moment → IsSettledAt told u attempt pair
+
+-- What was settled before a command is so at each moment since, and what was settled at one of these is so in the end.
+pub record Settles (a b : Told) : Type 0 where
+  pub on : (attempt : ℕ) (pair : Image) → IsSettledAs a attempt pair → (u : ℕ) → a.moment < u → u ≤ b.moment → IsSettledAt b u attempt pair
+  pub by : (t attempt : ℕ) (pair : Image) → a.moment < t → t ≤ b.moment → IsSettledAt b t attempt pair → IsSettledAs b attempt pair
+
+-- what was unswept, but behind a sweep
+abbrev pub IsUnsweptBehind : Exchange → Slot → (before now : Unswept) → Type 0
+IsUnsweptBehind x slot before now = (¬ HasSweptIn x → now ≡ before) × (HasSweptIn x → now ≡ unswept_behind x.turn.met.left slot before)
+
+pub record Watches (rule : Rule) (a b : Told) (s : State) (v view : View) (before now : Option Collection) (slot slot' : Slot) (unswept unswept' : Unswept) (x : Exchange) : Type 0 where
   pub phase : s.phase ≡ phase_of before
   pub phase_behind : x.after.phase ≡ phase_of now
   pub answered : ℕ
@@ -125,7 +190,23 @@ pub record Watches (a b : Told) (s : State) (before now : Option Collection) (sl
   pub left : IsPossible b answered behind
   pub stands_behind : StandsFor behind x.after.repository
   pub has_behind : HasLive slot' behind
+  -- where its records came to lie, and which parts of the work's tree are known then
+  pub tree : x.after.work.tree ≡ view.map
+  pub seen : IsViewIn s.repository v x.line x.reply view
+  pub placed : PlacedIn rule (present stands.standing.records) slot unswept slot' s v x.line x.reply
+  pub unswept_behind : IsUnsweptBehind x slot' unswept unswept'
+  pub starts : StartsAt slot slot' x
+  pub aims : HasStarted (Ok x.reply) → (job : Job) → x.started ≡ job ∷ [] → IsAimed stands_behind.standing.records x.after.phase job
+  pub hears : HearsAt slot x
   pub judged : (reaped : Reaped) → x.turn.met.child ≡ Child.Ended reaped → IsSomeAnd before (λ c. IsJudgedAs b answered behind s.phase stands.standing.records c.job reaped x)
+  pub checked : (left : ℕ) → x.reply ≡ Reply.Checking left → IsSomeAnd before (λ c. IsCheckedTo (until c.job.end stands_behind.standing.records) c.job (looked_in before) (looked_in now) left)
+  pub looked : (commit : ℕ) (exit : Option Reaped) → x.after.phase ≡ Phase.Collecting commit exit → x.started ≡ [] → looked_in before ≤ looked_in now
+  -- whose the attempt of a child is
+  pub lent : IsHeldIn s → IsSomeAnd before (λ c. lending a c.job.attempt ≡ custody.lent)
+  pub lent_behind : IsHeldIn x.after → IsSomeAnd now (λ c. b.lending_at answered c.job.attempt ≡ custody.lent)
+  pub swept : HasSweptIn x → IsSomeAnd before (λ c. (pair : Image) × IsSettledAt b answered c.job.attempt pair)
+  pub settles : NothingPending a → Settles a b
+  pub stays : NothingPending a → (t : ℕ) → (t ≤ a.moment → StaysFrom a t a.moment) → t ≤ answered → StaysFrom b t answered
   -- where nothing was left to be cleared that is not unswept: behind a sweep that left nothing all is gone that no collection needs
   pub clear : IsClearTo slot unswept a.held (lending a) → HasSweptIn x → x.turn.met.left ≡ 0 → IsClear slot' behind (b.lending_at answered)
   -- what a child may read stays while the command runs, and while its reply is said
@@ -137,7 +218,7 @@ pub record Watches (a b : Told) (s : State) (before now : Option Collection) (sl
   pub unheard : IsHeldIn x.after → (reaped : Reaped) → x.turn.met.child ≢ Child.Ended reaped
 
 -- When it began, and when it was answered, this had been said, and nothing of its own.
-pub record Watched (old told : Told) (said_before : Bytes) (since : ℕ) (s : State) (last : Option Started) (x : Exchange) (began answered : ℕ) (image behind : Image) : Type 0 where
+pub record Watched (rule : Rule) (old told : Told) (said_before : Bytes) (since : ℕ) (p q : Point) (x : Exchange) (began answered : ℕ) (image behind : Image) : Type 0 where
   pub over : since ≤ began
   pub later : began ≤ answered
   pub by_now : answered ≤ told.moment
@@ -145,15 +226,35 @@ pub record Watched (old told : Told) (said_before : Bytes) (since : ℕ) (s : St
   pub unsaid : told.said_at answered ≡ said_before
   -- what the files read as when it began, and when it was answered, each of which is one of the things that a crash might have left
   pub possible : IsPossible told began image
-  pub stands : StandsFor image s.repository
+  pub stands : StandsFor image p.state.repository
+  pub has : HasLive p.slot image
   pub left : IsPossible told answered behind
   pub stands_behind : StandsFor behind x.after.repository
+  pub has_behind : HasLive q.slot behind
+  -- What it appended came to lie behind what the live slot said, by the records of these files, and a limit of space or of the sequence is met by that alone.
+  pub placed : PlacedIn rule (present stands.standing.records) p.slot p.unswept q.slot p.state p.view x.line x.reply
+  pub unswept : IsUnsweptBehind x q.slot p.unswept q.unswept
+  pub tree : x.after.work.tree ≡ q.view.map
+  pub seen : IsViewIn p.state.repository p.view x.line x.reply q.view
+  -- the job of a child that it started, and which child it heard of
+  pub starts : StartsAt p.slot q.slot x
+  pub aims : HasStarted (Ok x.reply) → (job : Job) → x.started ≡ job ∷ [] → IsAimed stands_behind.standing.records x.after.phase job
+  pub hears : HearsAt p.slot x
   -- a child that it met had been started in the run, and was the last
-  pub judged : (reaped : Reaped) → x.turn.met.child ≡ Child.Ended reaped → IsSomeAnd last (λ child. IsJudgedAs told answered behind s.phase stands.standing.records child.job reaped x)
+  pub judged : (reaped : Reaped) → x.turn.met.child ≡ Child.Ended reaped → IsSomeAnd p.last (λ child. IsJudgedAs told answered behind p.state.phase stands.standing.records child.job reaped x)
+  -- what was looked at is not looked at again while the collection goes on
+  pub checked : (left : ℕ) → x.reply ≡ Reply.Checking left → IsSomeAnd p.last (λ child. IsCheckedTo (until child.job.end stands_behind.standing.records) child.job p.looked q.looked left)
+  pub looked : (commit : ℕ) (exit : Option Reaped) → x.after.phase ≡ Phase.Collecting commit exit → x.started ≡ [] → p.looked ≤ q.looked
+  -- A child that is held may still write its files. Behind a sweep that of the last one does not any more.
+  pub lent : IsHeldIn p.state → IsSomeAnd p.last (λ child. told.lending_at began child.job.attempt ≡ custody.lent)
+  pub lent_behind : IsHeldIn x.after → IsSomeAnd q.last (λ child. told.lending_at answered child.job.attempt ≡ custody.lent)
+  pub swept : HasSweptIn x → IsSomeAnd p.last (λ child. (pair : Image) × IsSettledAt told answered child.job.attempt pair)
+  -- where nothing was pending at first: what was settled by then stays so up to the end of the run
+  pub stays : NothingPending old → (t : ℕ) → old.moment ≤ t → t ≤ answered → StaysFrom told t answered
   -- Where nothing was left to be cleared when the run began that its slot names as swept: behind a sweep that left nothing all is gone that no collection needs.
   pub clear : IsClearAt old → HasSweptIn x → x.turn.met.left ≡ 0 → (slot : Slot) → HasLive slot behind → IsClear slot behind (told.lending_at answered)
   -- where nothing was pending at first: a child that is held reads what there was at its start, until it is heard to have ended, or was killed
-  pub reads : NothingPending old → IsHeldIn s → IsSomeAnd last (λ child. ReadsSame told child began × (((reaped : Reaped) → x.turn.met.child ≢ Child.Ended reaped) → ReadsSame told child answered))
+  pub reads : NothingPending old → IsHeldIn p.state → IsSomeAnd p.last (λ child. ReadsSame told child began × (((reaped : Reaped) → x.turn.met.child ≢ Child.Ended reaped) → ReadsSame told child answered))
 
 -- what is said of these exchanges
 abbrev pub texts_by : (Reply → Bytes) → List Exchange → Bytes
@@ -164,34 +265,44 @@ texts_by says (x ∷ exchanges) = says x.reply ++ texts_by says exchanges
 abbrev pub says_nothing : Reply → Bytes
 says_nothing reply = []
 
--- in the end this child was the last
-abbrev pub AllWatched : (Reply → Bytes) → Told → Told → Bytes → ℕ → State → Option Started → List Exchange → Option Started → Type 0
-AllWatched says old told said_before since s last [] end = end ≡ last
-AllWatched says old told said_before since s last (x ∷ exchanges) end =
-    (began : ℕ) × (answered : ℕ) × (image : Image) × (behind : Image) × Watched old told said_before since s last x began answered image behind × AllWatched says old told (said_before ++ says x.reply) answered x.after (last_started answered behind x.started last) exchanges end
+-- from this point on, up to that in the end
+abbrev pub AllWatched : Rule → (Reply → Bytes) → Told → Told → Bytes → ℕ → Point → List Exchange → Point → Type 0
+AllWatched rule says old told said_before since p [] end = end ≡ p
+AllWatched rule says old told said_before since p (x ∷ exchanges) end =
+    (began : ℕ) × (answered : ℕ) × (image : Image) × (behind : Image) × (view : View) × (slot : Slot) × (unswept : Unswept) × (looked : ℕ)
+    × Watched rule old told said_before since p (behind_it p x answered behind view slot unswept looked) x began answered image behind
+    × AllWatched rule says old told (said_before ++ says x.reply) answered (behind_it p x answered behind view slot unswept looked) exchanges end
 
--- no command was cut off; or one was cut short, and heard of no child's end
-abbrev pub HearsNone : (is_cut_off is_cut_short : Bool) → List Exchange → Type 0
-HearsNone is_cut_off is_cut_short cut = (is_cut_off ≡ false) ⊎ ((is_cut_short ≡ true) × ((x : Exchange) → cut ≡ x ∷ [] → (reaped : Reaped) → x.turn.met.child ≢ Child.Ended reaped))
+-- no command was cut short; or it heard of no child's end
+abbrev pub HearsNone : List Exchange → Type 0
+HearsNone cut = (x : Exchange) → cut ≡ x ∷ [] → (reaped : Reaped) → x.turn.met.child ≢ Child.Ended reaped
 
-pub record WatchedIn (says : Reply → Bytes) (is_cut_off is_cut_short : Bool) (old new : Told) (first : State) (exchanges : List Exchange) : Type 0 where
+pub record WatchedIn (rule : Rule) (says : Reply → Bytes) (is_unsaid is_cut_short : Bool) (old new : Told) (slot : Slot) (first : State) (exchanges : List Exchange) : Type 0 where
   pub whole : List Exchange
   pub cut : List Exchange
   pub all : whole ++ cut ≡ exchanges
   pub one : length cut ≤ 1
-  pub none : is_cut_off ≡ false → cut ≡ []
-  pub last : Option Started
-  pub watched : AllWatched says old new (said old) old.moment first None whole last
-  -- when what a run says of each of these, before the next one begins, had been said
+  pub none : is_cut_short ≡ false → cut ≡ []
+  pub end : Point
+  pub watched : AllWatched rule says old new (said old) old.moment (begun_at slot first) whole end
+  -- the slot in the end is that of the files
+  pub live : cut ≡ [] → HasLive end.slot new.held
+  -- when what a run says of each of these, before the next one begins, had been said; but of the last one, where that could not be
   pub ended : ℕ
   pub by_now : ended ≤ new.moment
-  pub said_then : new.said_at ended ≡ said old ++ texts_by says whole
-  -- One that is held then reads the same up to that moment; and up to the end of the run, unless a reply was said in part, or the last command heard that it has ended.
-  pub reads : NothingPending old → IsHeldIn (after_all first whole) → IsSomeAnd last (λ child. ReadsSame new child ended × (HearsNone is_cut_off is_cut_short cut → ReadsSame new child new.moment))
+  pub said_then : is_unsaid ≡ false → new.said_at ended ≡ said old ++ texts_by says whole
+  -- A child that is held then may still write its files, and reads the same up to that moment; and up to the end of the run, unless the last command was cut short and heard that it has ended.
+  pub lent : IsHeldIn (after_all first whole) → IsSomeAnd end.last (λ child. new.lending_at ended child.job.attempt ≡ custody.lent)
+  pub reads : NothingPending old → IsHeldIn (after_all first whole) → IsSomeAnd end.last (λ child. ReadsSame new child ended × (HearsNone cut → ReadsSame new child new.moment))
+
+-- the last child, with the number of records of its job that were looked at
+abbrev pub point_of : State → View → Slot → Unswept → Option Started → Option Collection → Point
+point_of s view slot unswept last collection = record { state = s; view = view; slot = slot; unswept = unswept; last = last; looked = looked_in collection }
 
 -- A collection that goes on is that of the child that was started last, and while the child is held what it may read stays.
-pub record IsWatchedTo (says : Reply → Bytes) (old now : Told) (first : State) (exchanges : List Exchange) (collection : Option Collection) : Type 0 where
+pub record IsWatchedTo (rule : Rule) (says : Reply → Bytes) (old now : Told) (slot : Slot) (first : State) (exchanges : List Exchange) (collection : Option Collection) (slot' : Slot) (unswept : Unswept) (view : View) : Type 0 where
   pub last : Option Started
-  pub watched : AllWatched says old now (said old) old.moment first None exchanges last
+  pub watched : AllWatched rule says old now (said old) old.moment (begun_at slot first) exchanges (point_of (after_all first exchanges) view slot' unswept last collection)
   pub going : IfSome collection (λ c. IsSomeAnd last (λ child. child.job ≡ c.job))
+  pub stays : NothingPending old → (t : ℕ) → old.moment ≤ t → t ≤ now.moment → StaysFrom now t now.moment
   pub reads : NothingPending old → IsHeldIn (after_all first exchanges) → IsSomeAnd last (λ child. ReadsSame now child now.moment × IsSameFor child.job child.image now.held × (child.from ≤ now.moment))

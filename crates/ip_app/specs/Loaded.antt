@@ -57,7 +57,7 @@ pub record Loaded (rule : Rule) (decisive : Bool) (seed state number : ℕ) (old
   pub view : View
   pub slot : Slot
   pub ran : Ran rule decisive known exchanges first repository view slot old now counts session
-  pub watched : IsTrue known → IsWatchedTo says_nothing old.told now.told (opened first) exchanges session.store.held.collection
+  pub watched : IsTrue known → IsWatchedTo rule says_nothing old.told now.told slot (opened first) exchanges session.store.held.collection session.store.held.slot session.store.held.unswept view
   pub no_fault : OnlyRemovals old.counts now.counts
   pub lines_then : (more : ℕ) → lines_from seed 1 (number + more) ≡ lines_in exchanges ++ lines_from state (number + 1) more
   pub count : length exchanges ≡ number

@@ -23,11 +23,10 @@ use Rattle.ip_held.specs.Clear.{IsClearAt}
 use Rattle.ip_held.specs.Sweeping.{KeepsFiles}
 use Rattle.ip_app.specs.declared.statuses.Status.{Status}
 use Rattle.ip_app.specs.Exchanges.{Exchange, answer_of, Run, lines_in, texts_in, after_all}
-use Rattle.ip_app.specs.Exchanging.{is_cut_short}
+use Rattle.ip_app.specs.Exchanging.{is_cut_short, IsDamage, WritesNone}
 use Rattle.ip_app.specs.Judged.{WatchedIn, says_nothing}
-use Rattle.ip_app.specs.Places.{PlacesIn}
 use Rattle.ip_app.specs.Outside.{Outside, Tells, Knows, GoesOn}
-use Rattle.ip_app.specs.Run.{Begins, IsBehindOpening, Row, Notes, AsksChildren, NoneRose}
+use Rattle.ip_app.specs.Run.{IsUntouched, Begins, IsBehindOpening, Row, Notes, AsksChildren, NoneRose}
 
 abbrev pub load_script : ℕ → ℕ → List Bytes
 load_script seed count = load_lines seed count ++ codes "stat" ∷ []
@@ -66,12 +65,12 @@ pub record SaysSummary (status : Status) (text old new : Bytes) : Type 0 where
 pub record LoadReplies (rule : Rule) (decisive : Bool) (seed count : ℕ) (old new : Outside) (status : Status) (exchanges : List Exchange) (first : State) : Type 0 where
   -- the commands begun are those of the load's lines, in order, and of all of them unless a fault cut one short
   pub begun : (more : List Bytes) × (load_script seed count ≡ lines_in exchanges ++ more) × (IsBehindOpening status exchanges → is_cut_short status ≡ false → more ≡ [])
+  -- one that met damage is one of them
+  pub some : IsDamage status → exchanges ≢ []
   -- and are a run of the machine, each with what it met
   pub run : Knows decisive old → Run rule first exchanges
-  -- What each of them appends comes to lie behind what the live slot says, and a limit of space or of the sequence is met by that alone.
-  pub placed : Knows decisive old → (slot : Slot) → HasLive slot old.told.held → PlacesIn rule (is_cut_short status) slot first exchanges
-  -- What it met of a child that has ended is what that child left, which had been started in the run.
-  pub watched : Knows decisive old → WatchedIn says_nothing (is_cut_short status) (is_cut_short status) old.told new.told first exchanges
+  -- What each of them appends comes to lie behind what the live slot says, and what it met of a child that has ended is what that child left, which had been started in the run.
+  pub watched : Knows decisive old → (slot : Slot) → HasLive slot old.told.held → WatchedIn rule says_nothing false (is_cut_short status) old.told new.told slot first exchanges
   pub said : Knows decisive old → SaysSummary status (load_text count exchanges) (said old.told) (said new.told)
 
 -- What the files stand for.
@@ -108,6 +107,10 @@ pub record LoadRun (rule : Rule) (decisive : Bool) (seed count : ℕ) (old new :
   pub notes : Notes old new status exchanges
   -- why it ends so
   pub row : LoadRow decisive status old new
+  -- where the store could not be opened nothing was changed; so where a fault cut the first line short that changed anything, that line is there
+  pub unopened : status ≡ Status.GroundFault → exchanges ≡ [] → IsUntouched old new []
+  -- nor was anything where the first line met damage
+  pub unwritten : IsTrue old.ground_tells → IsDamage status → length exchanges ≤ 1 → WritesNone old.told new.told
 
 pub record Loads (rule : Rule) (decisive : Bool) (seed count : ℕ) (old new : Outside) (status : Status) : Type 0 where
   pub exchanges : List Exchange

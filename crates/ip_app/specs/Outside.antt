@@ -1,11 +1,11 @@
 -- What a source, a ground, a spawner and a log tell at a moment of a call, whose words name a folder.
 --     Outside, outside, outside_of      the record, and how the folder and the traits' ghost members make it, with a source or without one
---     but_bound before after      what was noted, but for the folder that is bound.      IsBound dir status old new      the folder of this name is bound, or it could not be, or nothing was done
+--     but_bound before after      what was noted, but for the folder that is bound.      IsBound dir status old new      the folder of this name was asked for and no other, and is bound, or could not be; or nothing was done
 --     Tells outside      the ground tells its content, and no child changes the live pair.      Knows decisive outside      and the rules of merges are known to be decisive
 --     GoesOn old new      what no call changes: the folder, who tells, and that no count falls. A log may tell no more
 --     IsUnasked old new      nothing was asked of the spawner
 use Rattle.std.specs.Prelude.{ℕ, ◌≤◌, ◌≡◌, ◌⊎◌, Bool, Option, Some, None, IsTrue, List}
-use Rattle.ip_ground.specs.Counts.{Noted, NoneFalls}
+use Rattle.ip_ground.specs.Counts.{Noted, NoneFalls, binds}
 use Rattle.ip_ground.specs.Told.{Told}
 use Rattle.ip_spec.specs.Path.{Bytes}
 use Rattle.ip_held.specs.Held.{OwnsLive}
@@ -63,9 +63,9 @@ Knows decisive outside = Tells outside × IsTrue decisive
 abbrev pub but_bound : Noted → Noted → Noted
 but_bound before after = record before { bound = after.bound }
 
--- Where it could not be, a fault of the ground ended the call. Nothing was done where memory was wanting for the words.
+-- It is asked for once, and no other folder is, before or behind it. Where it could not be bound, a fault of the ground ended the call. Nothing was done where memory was wanting for the words.
 abbrev pub IsBound : Bytes → Status → Noted → Noted → Type 0
-IsBound dir status old new = (new.bound ≡ Some dir) ⊎ (((new.bound ≡ None) × (status ≡ Status.GroundFault)) ⊎ ((status ≡ Status.Memory) × (new ≡ old)))
+IsBound dir status old new = (new.bound ≡ binds dir (Some dir) old.bound) ⊎ (((new.bound ≡ binds dir None old.bound) × (status ≡ Status.GroundFault)) ⊎ ((status ≡ Status.Memory) × (new ≡ old)))
 
 pub record GoesOn (old new : Outside) : Type 0 where
   pub dir : new.dir ≡ old.dir

@@ -30,7 +30,7 @@ pub record Refills (before : ℕ) (tells : Bool) (left left' : Bytes) (taken tak
 abbrev pub EndsReading : Status → (rest taken : ℕ) → (at_end : Type 0) → Type 0
 EndsReading Status.Done rest taken at_end = at_end × (rest ≡ 0) × (taken < most_taken)
 EndsReading Status.Unfinished rest taken at_end = at_end × (0 < rest) × (rest ≤ longest_line) × (taken < most_taken)
-EndsReading (Status.Limit Bound.Line) rest taken at_end = (longest_line < rest) × (taken ≤ most_taken)
+EndsReading (Status.Limit Bound.Line) rest taken at_end = (rest ≡ longest_line + 1) × (taken ≤ most_taken)
 EndsReading (Status.Limit Bound.Input) rest taken at_end = (rest ≤ longest_line) × (taken ≡ most_taken)
 EndsReading Status.ReadFault rest taken at_end = (rest ≤ longest_line) × (taken < most_taken)
 EndsReading _ rest taken at_end = ⊥

@@ -4,29 +4,30 @@
 --     Replies, Reopens, Notes, AsksChildren      of a serving call: its replies, what its files stand for, its log, its counts and its folder, and its children
 --     EndsAsBytes, EndsWhereAllIsWell      of a serving call: the source's bytes give the status; and which statuses need a fault
 --     LeavesAll      of a call that is refused: nothing changes
+--     StandsAgain new said first steps      of a ground that is opened behind a stop
 use Rattle.std.specs.Prelude.{ℕ, ◌≤◌, ◌≡◌, ◌≢◌, ◌⊎◌, Bool, true, false, IsTrue, List, [], ◌++◌, length, map, All, None, Some, IsSome, Result, Ok, Err}
 use Rattle.ip_ground.specs.declared.names.FileName.TheVariants.{Control}
 use Rattle.ip_base.specs.declared.exit.Reaped.{Reaped}
-use Rattle.ip_ground.specs.Counts.{Rose}
+use Rattle.ip_ground.specs.Counts.{Rose, binds}
 use Rattle.ip_ground.specs.Custody.{own}
 use Rattle.ip_ground.specs.Told.{Told, said, lending, ChangesOnly, SyncsOnly, Only, NoFile, IsSynced, EachImageNow}
 use Rattle.ip_image.specs.declared.slot.Slot.{Slot}
 use Rattle.ip_image.specs.Slot.{live_index}
 use Rattle.ip_image.specs.Standing.{StandsFor, NoStore, DamagedAt}
 use Rattle.ip_image.specs.Pending.{HasLive, NothingPending}
-use Rattle.ip_image.specs.Headline.{MayServe, Headline}
+use Rattle.ip_image.specs.Headline.{MayServe, Headline, Acknowledged}
 use Rattle.ip_spec.specs.Merge.{Rule}
 use Rattle.ip_spec.specs.Path.{Bytes}
 use Rattle.ip_spec.specs.Repository.{Repository, no_repository}
 use Rattle.ip_spec.specs.Machine.{State, opened}
-use Rattle.ip_spec.specs.Script.{whole_lines}
+use Rattle.ip_spec.specs.Script.{Answered, whole_lines, state_after}
 use Rattle.ip_held.specs.Control.{control_in, IsFresh}
 use Rattle.ip_opens.specs.declared.making.InitFault.{InitFault}
 use Rattle.ip_opens.specs.declared.opening.OpenFault.{OpenFault}
 use Rattle.ip_held.specs.declared.held.Held.{Held}
 use Rattle.ip_opens.specs.Opening.{RecoversOnceOpen}
 use Rattle.ip_held.specs.Held.{IsOf, OwnsLive, Holds}
-use Rattle.ip_held.specs.Clear.{IsCleared, IsClearAt}
+use Rattle.ip_held.specs.Clear.{IsCleared, IsClearAt, unswept_in}
 use Rattle.ip_held.specs.Sweeping.{KeepsFiles}
 use Rattle.ip_spawn.specs.declared.spawner.SpawnCounts.{SpawnCounts}
 use Rattle.ip_app.specs.declared.statuses.Status.{Status}
@@ -35,11 +36,11 @@ use Rattle.ip_app.specs.Reading.{EndsReading}
 use Rattle.ip_app.specs.Ending.{ending_of, IsOfBytes}
 use Rattle.ip_app.specs.Exchanges.{Exchange, answer_of, Run, lines_in, turns_in, texts_in, after_all}
 use Rattle.ip_app.specs.Happening.{HappenIn, started_in, ends_in}
-use Rattle.ip_app.specs.Serving.{is_cut_short, CountsOf, CountsServing}
+use Rattle.ip_app.specs.Serving.{is_cut_short, CountsOf, CountsServing, IsDamage, WritesNone}
 use Rattle.ip_app.specs.Judged.{WatchedIn}
 use Rattle.ip_spec.specs.Text.{reply_text}
-use Rattle.ip_app.specs.Places.{PlacesIn}
-use Rattle.ip_app.specs.Turns.{turn_counts, SpawnsLater, Follow}
+use Rattle.ip_session.specs.Asking.{LetsGo}
+use Rattle.ip_app.specs.Turns.{turn_counts, Follow}
 use Rattle.ip_app.specs.Outside.{Outside, Tells, Knows, GoesOn, IsBound, IsUnasked}
 
 -- ---- opening
@@ -66,6 +67,7 @@ pub record OpensAs (tells : Bool) (old new : Told) (store : Held) : Type 0 where
   pub stands : IsTrue tells → OwnsLive old → StandsFor old.held repository
   -- what its slot names as swept was cleared away
   pub clear : IsTrue tells → OwnsLive old → IsClearAt old → IsCleared store new
+  pub unswept : store.unswept ≡ unswept_in store.slot
   pub opening : IsTrue tells → RecoversOnceOpen old new
   pub over : (told : IsTrue tells) → OwnsLive old → (opening told).since ≤ new.moment
 
@@ -90,6 +92,11 @@ is_cut_off Status.GroundFault = true
 is_cut_off (Status.DamagedRecord at) = true
 is_cut_off (Status.DamagedName at want got) = true
 is_cut_off _ = false
+
+-- in the middle of saying a reply
+abbrev pub is_unsaid : Status → Bool
+is_unsaid Status.SayFault = true
+is_unsaid _ = false
 
 -- what was said of the replies: all, or all but the last and a part of that; nothing of one whose command was cut short
 pub record SaysUpTo (status : Status) (begun : Type 0) (exchanges : List Exchange) (old new : Bytes) : Type 0 where
@@ -129,7 +136,7 @@ Row decisive Status.NoStore old new taken = IsUntouched old new taken × (IsTrue
 Row decisive (Status.Damaged file at) old new taken = IsUntouched old new taken × (Tells old → DamagedAt old.told.held file at)
 -- of the files that a call reads: never where the ground tells its content, no child changes the live pair, and the rules are decisive
 Row decisive (Status.DamagedRecord at) old new taken = ¬ Knows decisive old
-Row decisive (Status.DamagedName at want got) old new taken = ¬ Knows decisive old
+Row decisive (Status.DamagedName at want got) old new taken = (¬ Knows decisive old) × (IsTrue decisive → want ≢ got)
 Row decisive Status.Memory old new taken = IsUntouched old new taken
 Row decisive Status.DamagedJob old new taken = ⊥
 Row decisive Status.Usage old new taken = ⊥
@@ -152,10 +159,8 @@ pub record Replies (rule : Rule) (decisive : Bool) (old new : Outside) (status :
   pub short : All (λ line. length line ≤ longest_line) (lines_in exchanges)
   -- and are a run of the machine, each with what it met. What is read of records is known only where the ground tells its content
   pub run : Knows decisive old → Run rule first exchanges
-  -- What each of them appends comes to lie behind what the live slot says, and a limit of space or of the sequence is met by that alone.
-  pub placed : Knows decisive old → (slot : Slot) → HasLive slot old.told.held → PlacesIn rule (is_cut_off status) slot first exchanges
-  -- What it met of a child that has ended is what that child left, which had been started in the run.
-  pub watched : Knows decisive old → WatchedIn reply_text (is_cut_off status) (is_cut_short status) old.told new.told first exchanges
+  -- What each of them appends comes to lie behind what the live slot says, and what it met of a child that has ended is what that child left, which had been started in the run.
+  pub watched : Knows decisive old → (slot : Slot) → HasLive slot old.told.held → WatchedIn rule reply_text (is_unsaid status) (is_cut_short status) old.told new.told slot first exchanges
   -- what was said grows by the replies' texts
   pub said_part : Knows decisive old → SaysUpTo status (taken ≢ []) exchanges (said old.told) (said new.told)
   pub said_all : Knows decisive old → is_cut_off status ≡ false → said new.told ≡ said old.told ++ texts_in exchanges
@@ -178,18 +183,19 @@ pub record Reopens (decisive : Bool) (old new : Outside) (status : Status) (exch
 pub record Notes (old new : Outside) (status : Status) (exchanges : List Exchange) : Type 0 where
   -- the log has their turns, each beginning with the counts that the one before it ended with, from those of the call's begin to those of its end
   pub noted : IsTrue new.log_tells → new.turns ≡ old.turns ++ turns_in exchanges
-  pub follow : IsBehindOpening status exchanges → (last : SpawnCounts) × SpawnsLater last new.spawns × Follow (turn_counts old.counts old.spawns) (turns_in exchanges) (turn_counts new.counts last)
+  -- Behind the last of them no child is looked at or waited for: at most one is let go.
+  pub follow : IsBehindOpening status exchanges → (last : SpawnCounts) × LetsGo last new.spawns × Follow (turn_counts old.counts old.spawns) (turns_in exchanges) (turn_counts new.counts last)
   -- A fault of the ground or of output ends the call, and so does damage: it was counted, and no other was.
   pub counted : CountsServing status old.counts new.counts
   pub reads : status ≢ Status.ReadFault → new.read_faults ≡ old.read_faults
-  -- the folder of the words is bound; where it could not be, no command was begun
+  -- the folder of the words is bound, and no other was asked for; where it could not be, no command was begun
   pub bound : IsBound old.dir status old.counts new.counts
-  pub bound_first : exchanges ≢ [] → new.counts.bound ≡ Some old.dir
+  pub bound_first : exchanges ≢ [] → new.counts.bound ≡ binds old.dir (Some old.dir) old.counts.bound
 
 -- What was asked of the spawner.
-pub record AsksChildren (cut_off : Bool) (old new : Outside) (exchanges : List Exchange) : Type 0 where
-  -- what each command met of it is what happened, but of the last one where that was cut off
-  pub happen : HappenIn cut_off exchanges
+pub record AsksChildren (cut_short : Bool) (old new : Outside) (exchanges : List Exchange) : Type 0 where
+  -- what each command met of it is what happened, of one that was cut short too
+  pub happen : HappenIn cut_short exchanges
   -- it has started what the commands started, in the folder of the words, and reaped what they reaped, and at the end it was let go of one more at most
   pub spawned : IsTrue old.spawner_tells → (ends : List Reaped) × (length ends ≤ 1) × (new.spawned ≡ record { started = old.spawned.started ++ started_in old.dir exchanges; reaped = (old.spawned.reaped ++ ends_in exchanges) ++ ends })
   pub none_held : old.held ≡ None → new.held ≡ None
@@ -206,9 +212,13 @@ pub record Serves (rule : Rule) (decisive : Bool) (old new : Outside) (status : 
   pub replies : Replies rule decisive old new status taken exchanges first
   pub reopens : Reopens decisive old new status exchanges first
   pub notes : Notes old new status exchanges
-  pub children : AsksChildren (is_cut_off status) old new exchanges
+  pub children : AsksChildren (is_cut_short status) old new exchanges
   -- why it ends so
   pub row : Row decisive status old new taken
+  -- where the store could not be opened nothing was changed
+  pub unopened : status ≡ Status.GroundFault → exchanges ≡ [] → IsUntouched old new taken
+  -- nor was anything where the first command met damage
+  pub unwritten : IsTrue old.ground_tells → IsDamage status → length exchanges ≤ 1 → WritesNone old.told new.told
 
 -- where the source tells its bytes, these alone give the status, in whatever pieces they came
 abbrev pub EndsAsBytes : Outside → Status → Type 0
@@ -264,6 +274,7 @@ InitRow chunk _ tells old new = ⊥
 pub record Inits (chunk : ℕ) (old new : Outside) (status : Status) : Type 0 where
   pub goes_on : GoesOn old new
   pub left : new.left ≡ old.left
+  pub read_faults : new.read_faults ≡ old.read_faults
   pub turns : new.turns ≡ old.turns
   pub unasked : IsUnasked old new
   -- at no moment does another file change, and nothing is said
@@ -283,3 +294,9 @@ pub record LeavesAll (old new : Outside) : Type 0 where
   pub only : ChangesOnly NoFile old.told new.told
   pub counts : new.counts ≡ old.counts
   pub unasked : IsUnasked old new
+
+-- ---- behind a stop
+
+-- it stands for the repository after some first commands, all acknowledged ones among them, and nothing of it is pending: so it may be served, with the same promise
+abbrev pub StandsAgain : Told → Bytes → State → List Answered → Type 0
+StandsAgain new said first steps = (k : ℕ) × (k ≤ length steps) × ((a : ℕ) → Acknowledged said steps a → a ≤ k) × StandsFor new.held (state_after first steps k).repository × NothingPending new

@@ -1,18 +1,22 @@
 // The program's calls.
-ghost use Rattle.std.specs.Prelude.{◌≡◌, ◌⊎◌, [], ℕ, Bool, None, IsTrue};
+ghost use Rattle.std.specs.Prelude.{◌≡◌, ◌⊎◌, [], ℕ, Bool, None, IsTrue, List};
 ghost use Rattle.ip_ground.specs.declared.names.FileName.TheVariants.{Control};
 ghost use Rattle.ip_ground.specs.Counts.{NoneFalls};
-ghost use Rattle.ip_ground.specs.Told.{ChangesOnly, Only};
+ghost use Rattle.ip_ground.specs.Told.{ChangesOnly, Only, Reopens};
 ghost use Rattle.ip_merge.specs.Rules.{IsDecisive};
 ghost use Rattle.ip_spawn.specs.declared.job.Job.{Job};
+ghost use Rattle.ip_spec.specs.Machine.{State};
 ghost use Rattle.ip_spec.specs.Path.{Bytes};
+ghost use Rattle.ip_spec.specs.Script.{Answered};
+ghost use Rattle.ip_image.specs.Headline.{AtMoment};
+ghost use Rattle.ip_image.specs.Pending.{crash_now};
 ghost use Rattle.ip_image.specs.Slot.{IsChunkSize};
 ghost use Rattle.ip_words.specs.Words.{Asked, making, serving, working, loading, Asks, AsksNothing, texts_of};
 ghost use Rattle.ip_app.specs.Loading.{Loads, LoadsWhereAllIsWell};
 ghost use Rattle.ip_app.specs.Outside.{outside, IsBound};
 ghost use Rattle.ip_app.specs.Working.{RunsJob};
 ghost use Rattle.ip_app.specs.Serving.{CountsOf};
-ghost use Rattle.ip_app.specs.Run.{init_status, InitRow, Inits, Serves, EndsAsBytes, EndsWhereAllIsWell, LeavesAll};
+ghost use Rattle.ip_app.specs.Run.{init_status, InitRow, Inits, Serves, EndsAsBytes, EndsWhereAllIsWell, LeavesAll, StandsAgain};
 
 use crate::load::load;
 use crate::serve::serve;
@@ -117,3 +121,10 @@ pub fn run<S: Source, G: Ground, P: Spawner, D: Decides, L: Log>(
         } => load(alloc, folder, seed, count, ground, spawner, rules, log),
     }
 }
+
+/// What a run promises of a moment holds of the ground that is opened behind a stop at it: the files stand for the repository after some first commands, all
+/// acknowledged ones among them, and nothing of them is pending, so that they may be served again.
+pub fn reopened<G: Ground>(stopped: &G, opened: &G)
+    ensures stands { (said : Bytes) (first : State) (steps : List Answered) → AtMoment (crash_now (G.told stopped.now)) said first steps → Reopens (G.told stopped.now) (G.told opened.now) →
+        StandsAgain (G.told opened.now) said first steps }
+{}

@@ -12,7 +12,7 @@ mod statuses;
 mod turn_log;
 mod work;
 
-pub use calls::run;
+pub use calls::{reopened, run};
 pub use program::run_program;
 pub use rules::{ProgramRules, program_rules_decide};
 pub use statuses::{Bound, Status};

@@ -1,5 +1,6 @@
 // Serving a script: line by line, one reply each.
 ghost use Rattle.std.specs.Prelude.{◌≡◌, ◌-◌, ◌^◌, ◌≤◌, [], None, Some, Bool, IsTrue, OnOk, IfOk, IfErr};
+ghost use Rattle.ip_ground.specs.Counts.{binds};
 ghost use Rattle.ip_ground.specs.Told.{SyncsOnly, Only};
 ghost use Rattle.ip_ground.specs.declared.names.FileName.TheVariants.{Control};
 ghost use Rattle.ip_merge.specs.Rules.{IsDecisive};
@@ -11,7 +12,7 @@ ghost use Rattle.ip_app.specs.Outside.{outside, IsBound};
 ghost use Rattle.ip_app.specs.Turns.{turn_counts};
 ghost use Rattle.ip_app.specs.Serving.{CountsOf, Works, TurnedIn, Stops};
 ghost use Rattle.ip_app.specs.Run.{opening_status, CouldNotOpen, OpensAs, Serves, EndsWhereAllIsWell, EndsAsBytes};
-ghost use Rattle.ip_session.specs.Session.{IsServing, state_in};
+ghost use Rattle.ip_session.specs.Session.{IsServing};
 
 use crate::exchange::exchange;
 use crate::lines::{LONGEST_LINE, Lines};
@@ -82,7 +83,7 @@ impl LineRoom {
             OnOk result (TurnedIn (D.rule rules.now) known (told source.old ground.old spawner.old log.old) (told source.new ground.new spawner.new log.new) self.old.lines self.new.lines counts.old counts.new session.old session.new r v) }
         ensures stops { let told = outside folder.now S.tells S.left S.read_faults G.tells G.told G.counts_of P.tells P.told P.held P.counts_of L.tells L.turns in
             (known : Bool) (r : Repository) (v : View) → (IsTrue known → Works (D.rule rules.now) G.tells (G.told ground.old) session.old r v) →
-            IfErr result (λ status. Stops (D.rule rules.now) status known (told source.old ground.old spawner.old log.old) (told source.new ground.new spawner.new log.new) self.old.lines self.new.lines counts.old counts.new session.old.store.held (state_in session.old r v)) }
+            IfErr result (λ status. Stops (D.rule rules.now) status known (told source.old ground.old spawner.old log.old) (told source.new ground.new spawner.new log.new) self.old.lines self.new.lines counts.old counts.new session.old session.new r v) }
     {
         self.line.clear();
         self.text.clear();
@@ -134,7 +135,7 @@ pub(crate) fn open_in<G: Ground>(
     ensures refused { IfErr result (λ status. CouldNotOpen status G.tells (G.told ground.old)) }
     ensures counted { IfErr result (λ status. CountsOf status (G.counts_of ground.old) (G.counts_of ground.new)) }
     ensures bound { IfErr result (λ status. IsBound folder.now status (G.counts_of ground.old) (G.counts_of ground.new)) }
-    ensures no_fault { OnOk result (G.counts_of ground.new ≡ record (G.counts_of ground.old) { bound = Some folder.now }) }
+    ensures no_fault { OnOk result (G.counts_of ground.new ≡ record (G.counts_of ground.old) { bound = binds folder.now (Some folder.now) (G.counts_of ground.old).bound }) }
 {
     if ground.attach(folder).is_err() {
         return Err(Status::GroundFault);

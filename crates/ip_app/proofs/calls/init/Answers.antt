@@ -1,7 +1,7 @@
 use Rattle.std.proofs.Common.{rules, inl, inr, Some, ◌-◌, ◌^◌, ◌≤◌, ℕ, refl, ◌≡◌, ◌∙◌, sym, ap, subst, IsTrue, Bool, Ok, Err, Result}
 use Rattle.std.specs.Prelude.{IsSome}
 use Rattle.ip_ground.specs.declared.names.FileName.TheVariants.{Control}
-use Rattle.ip_ground.specs.Counts.{Noted, Counted, as_nothing, Counts, CountsIf}
+use Rattle.ip_ground.specs.Counts.{Noted, Counted, as_nothing, Counts, CountsIf, binds}
 use Rattle.ip_ground.specs.declared.names.GroundCounts.{GroundCounts}
 use Rattle.ip_ground.specs.Told.{Told, ChangesOnly, Only, NoFile}
 use Rattle.ip_ground.proofs.Spans.{only_on, only_more, lending_now}
@@ -62,7 +62,7 @@ init_counts dir made s a mid b e same counted = subst (λ (t : Status). CountsOf
     by_answer (Err InitFault.Existing) h = h
     by_answer (Err InitFault.Ground) h = h
 
-init_bound : (dir : Bytes) (made : Result (Unit {0}) InitFault) (a mid b : Noted) → mid ≡ bound_to dir a → Counts counted_init made mid b → b.bound ≡ Some dir
+init_bound : (dir : Bytes) (made : Result (Unit {0}) InitFault) (a mid b : Noted) → mid ≡ bound_to dir a → Counts counted_init made mid b → b.bound ≡ binds dir (Some dir) a.bound
 init_bound dir made a mid b same counted = bound_still dir a b (counted_made made) (made_counts made (bound_to dir a) b (subst (λ (n : Noted). Counts counted_init made n b) same counted))
 
 pub returns-then-is_err-clause-counted : goal.returns-then-is_err-clause-counted

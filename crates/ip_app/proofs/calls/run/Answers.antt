@@ -170,7 +170,7 @@ returns-in-Init-clause-init g c folder chunk asks =
     let words = texts_of c.args.words.now in
     let read = subst (λ (call : Call). Asks words (shown call)) c.in-Init.is (asked_for words _ _ c.in-Ok-Some.field-0-is c.in-Ok-Some.ensures) in
     inits_with _ chunk _ _ c.init.result (same_size words _ _ _ _ read asks)
-    (record { goes_on = record { dir = refl; source_tells = refl; ground_tells = refl; spawner_tells = refl; log_tells = λ t. t; read_faults = le_refl _; counts = c.init.ensures.counts; spawns = spawns_itself _ }; left = refl; turns = refl; unasked = record { spawned = refl; held = refl; spawns = refl }; only = c.init.ensures.only; counted = c.init.ensures.counted; bound = subst (λ (dir : Bytes). IsBound dir c.init.result (g.G.Ground.counts_of c.args.ground.now) (g.G.Ground.counts_of c.init.new.ground)) (same_folder _ _ (same_call _ _ _ _ _ c.in-Ok-Some.field-0-is c.in-Ok-Some.ensures c.in-Init.is asks)) c.init.ensures.bound; row = c.init.ensures.row })
+    (record { goes_on = record { dir = refl; source_tells = refl; ground_tells = refl; spawner_tells = refl; log_tells = λ t. t; read_faults = le_refl _; counts = c.init.ensures.counts; spawns = spawns_itself _ }; left = refl; read_faults = refl; turns = refl; unasked = record { spawned = refl; held = refl; spawns = refl }; only = c.init.ensures.only; counted = c.init.ensures.counted; bound = subst (λ (dir : Bytes). IsBound dir c.init.result (g.G.Ground.counts_of c.args.ground.now) (g.G.Ground.counts_of c.init.new.ground)) (same_folder _ _ (same_call _ _ _ _ _ c.in-Ok-Some.field-0-is c.in-Ok-Some.ensures c.in-Init.is asks)) c.init.ensures.bound; row = c.init.ensures.row })
 
 pub returns-in-Load-clause-usage : goal.returns-in-Load-clause-usage
 returns-in-Load-clause-usage g c is = absurd (load_no_usage _ _ _ _ _ _ (c.load.ensures.loads false [] 0 false (λ h. absurd (cc h))) is)

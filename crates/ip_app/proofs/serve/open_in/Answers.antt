@@ -1,7 +1,7 @@
 use Rattle.std.proofs.Common.{inl, inr, Some, refl, ◌≡◌, sym, ap, ◌∙◌, subst, IsTrue, Bool, Ok, Err}
 use Rattle.std.specs.Prelude.{is_some}
 use Rattle.ip_ground.specs.declared.names.FileName.TheVariants.{Control}
-use Rattle.ip_ground.specs.Counts.{Noted, CountsIf}
+use Rattle.ip_ground.specs.Counts.{Noted, CountsIf, binds}
 use Rattle.ip_ground.specs.Told.{Told, ChangesOnly, NoFile, Only, SyncsOnly}
 use Rattle.ip_ground.proofs.Spans.{at_most, syncs_none, syncs_on}
 use Rattle.ip_spec.specs.Path.{Bytes}
@@ -50,6 +50,7 @@ opens_as tells old mid new store tables passes unswept does = record {
   holds = λ told owns. (opened.1 (known.1 (told, owns))).0;
   stands = λ told owns. (opened.1 (known.1 (told, owns))).1;
   clear = λ told owns. cleared_opened old new (only told) store (held_has store opened.0.0 new (opened.1 (known.1 (told, owns))).0) unswept;
+  unswept = unswept;
   opening = λ told. opening_after old mid new (passes told) (does told).opening;
   over = λ told owns. (does told).reached tt (ap is_some (((passes told).others Control (λ none. none)).held (λ x. x) ∙ (opened.1 (known.1 (told, owns))).1.standing.held));
 }
@@ -105,7 +106,7 @@ open_counts dir f s a mid b e same counted = subst (λ (t : Status). CountsOf t 
     by_fault OpenFault.Ground h = h
     by_fault OpenFault.Memory h = h
 
-open_bound : (dir : Bytes) (f : OpenFault) (a mid b : Noted) → mid ≡ bound_to dir a → CountsIf (counted_open f) mid b → b.bound ≡ Some dir
+open_bound : (dir : Bytes) (f : OpenFault) (a mid b : Noted) → mid ≡ bound_to dir a → CountsIf (counted_open f) mid b → b.bound ≡ binds dir (Some dir) a.bound
 open_bound dir f a mid b same counted = bound_still dir a b (counted_open f) (subst (λ (n : Noted). CountsIf (counted_open f) n b) same counted)
 
 pub returns-then-is_err-clause-counted : goal.returns-then-is_err-clause-counted

@@ -1,4 +1,4 @@
-use Rattle.std.proofs.Common.{rules, true, false, IsTrue, inl, ℕ, ◌-◌, ◌^◌, ◌≤◌, arith, refl, sym, ap, ap₂, ◌∙◌, subst}
+use Rattle.std.proofs.Common.{rules, ◌≡◌, true, false, IsTrue, inl, ℕ, ◌-◌, ◌^◌, ◌≤◌, arith, refl, sym, ap, ap₂, ◌∙◌, subst}
 use Rattle.std.proofs.Math.Nat.{le_refl}
 use Rattle.ip_ground.specs.Counts.{Noted, as_nothing}
 use Rattle.ip_ground.specs.declared.names.GroundCounts.{GroundCounts}
@@ -6,14 +6,13 @@ use Rattle.ip_image.specs.declared.counts.TurnCounts.{TurnCounts}
 use Rattle.ip_spawn.specs.declared.spawner.SpawnCounts.{SpawnCounts}
 use Rattle.ip_spec.specs.Merge.{Rule}
 use Rattle.ip_store.specs.declared.store.Store.{Store}
-use Rattle.ip_held.specs.Clear.{IsCleared}
+use Rattle.ip_held.specs.Clear.{IsCleared, unswept_in}
 use Rattle.ip_held.specs.Collecting.{child_of}
 use Rattle.ip_merge.specs.Rules.{IsDecisive}
 use Rattle.ip_app.specs.declared.statuses.Status.TheVariants as status
 use Rattle.ip_app.specs.Turns.{turn_of}
 use Rattle.ip_app.proofs.Counting.{spawns_itself, bound_counts, falls_bound, falls_same, falls_of}
 use Rattle.ip_app.proofs.EndingLaw.{ends_as_bytes}
-use Rattle.ip_app.proofs.Happened.{later_gone}
 use Rattle.ip_app.proofs.LivePair.{live_in, known_or_not, with_flag}
 use Rattle.ip_app.proofs.RunLemmas.{serves_stop, served_first, served_more, ends_by_script, begins_unopened}
 use Rattle.ip_spec.specs.View.{no_view}
@@ -49,7 +48,7 @@ lines-init g c =
       removals = subst (λ (n : ℕ). n ≤ 2 ^ 64 - 1) (sym (ap (λ (t : TurnCounts). t.remove_faults) (c.turn_counts-counts.ensures ∙ ap₂ turn_of c.counts.ensures c.counts-2.ensures))) (subst (λ (n : GroundCounts). n.remove_faults ≤ 2 ^ 64 - 1) c.counts.ensures removals);
       running = subst (λ (n : ℕ). n ≤ 2 ^ 64 - 1) (sym (ap (λ (t : TurnCounts). t.spawner.running) (c.turn_counts-counts.ensures ∙ ap₂ turn_of c.counts.ensures c.counts-2.ensures))) (subst (λ (n : SpawnCounts). n.running ≤ 2 ^ 64 - 1) c.counts-2.ensures running);
       child = child;
-      served = λ decisive by_rule. served_first _ decisive by_rule _ _ c.in-Ok-new.room.lines c.turn_counts-counts.result c.new-session.result opened.repository no_view refl (with_flag _ decisive (known_or_not g.G.Ground.tells _ (λ told owns. live_in _ _ (opened.stands told owns)))) (opened.repository, c.new-session.ensures.is_in opened.repository opened.tables) (c.new-session.ensures.state c.in-Ok.ensures.idle opened.repository)
+      served = λ decisive by_rule. served_first _ decisive by_rule _ _ c.in-Ok-new.room.lines c.turn_counts-counts.result c.new-session.result opened.repository no_view refl (subst (λ (store : Store). store.held.unswept ≡ unswept_in store.held.slot) (sym c.new-session.ensures.store) opened.unswept) (with_flag _ decisive (known_or_not g.G.Ground.tells _ (λ told owns. live_in _ _ (opened.stands told owns)))) (opened.repository, c.new-session.ensures.is_in opened.repository opened.tables) (c.new-session.ensures.state c.in-Ok.ensures.idle opened.repository)
           (λ tells. begins_working _ c.new-session.result _ opened.repository (ap (λ (store : Store). store.held) c.new-session.ensures.store) c.new-session.ensures.lawful (opened.holds tells.0 tells.1)) (λ tells clear. subst (λ (store : Store). IsCleared store.held (g.G.Ground.told c.open_in.new.ground)) (sym c.new-session.ensures.store) (opened.clear tells.0 tells.1 clear)) (λ tells. opened.stands tells.0 tells.1) opened.opening (λ tells. opened.over tells.0 tells.1) (c.turn_counts-counts.ensures ∙ ap₂ turn_of c.counts.ensures c.counts-2.ensures) c.in-Ok.ensures.no_fault (record { spawned = refl; held = refl; spawns = refl }) idle c.requires.child refl
           (record { dir = refl; source_tells = refl; ground_tells = refl; spawner_tells = refl; log_tells = λ t. t; read_faults = le_refl (g.S.Source.read_faults c.args.source.now); counts = falls_bound (g.G.Ground.counts_of c.args.ground.now) (g.G.Ground.counts_of c.open_in.new.ground) (falls_same _ _ (bound_counts c.args.folder.now (g.G.Ground.counts_of c.args.ground.now) (g.G.Ground.counts_of c.open_in.new.ground) as_nothing c.in-Ok.ensures.no_fault)); spawns = spawns_itself (g.P.Spawner.counts_of c.args.spawner.now) })
           c.open_in.ensures.only refl refl c.in-Ok-new.ensures.pending c.in-Ok-new.ensures.taken;
@@ -75,8 +74,8 @@ pub returns-in-Err-turn-clause-serves : goal.returns-in-Err-turn-clause-serves
 returns-in-Err-turn-clause-serves g c decisive by_rule =
     let served = c.lines.invariant.served decisive by_rule in
     let gone = c.let_go.ensures.told in
-    serves_stop _ decisive c.in-Err-turn.status _ _ _ c.lines.room.lines c.turn.new.self.lines c.lines.counts c.turn.new.counts c.lines.session served (c.in-Err-turn.ensures.stops served.known served.repository served.view (λ is. ((served.ran.trace.tells is).0, served.ran.working is, served.ran.trace.is_decisive is)))
-    (g.P.Spawner.told c.let_go.new.spawner) (g.P.Spawner.held c.let_go.new.spawner) (g.P.Spawner.counts_of c.let_go.new.spawner) (record { ends = gone.0; few = gone.1; told = gone.2; none = c.let_go.ensures.none_held; later = later_gone _ _ c.let_go.ensures.counts })
+    serves_stop _ decisive by_rule c.in-Err-turn.status _ _ _ c.lines.room.lines c.turn.new.self.lines c.lines.counts c.turn.new.counts c.lines.session c.turn.new.session served (c.in-Err-turn.ensures.stops served.known served.repository served.view (λ is. ((served.ran.trace.tells is).0, served.ran.working is, served.ran.trace.is_decisive is)))
+    (g.P.Spawner.told c.let_go.new.spawner) (g.P.Spawner.held c.let_go.new.spawner) (g.P.Spawner.counts_of c.let_go.new.spawner) (record { ends = gone.0; few = gone.1; told = gone.2; none = c.let_go.ensures.none_held; gone = c.let_go.ensures.counts })
 
 pub lines-preserved : goal.lines-preserved
 lines-preserved g c =

@@ -1,6 +1,5 @@
 use Rattle.std.proofs.Common.{refl}
 use Rattle.ip_ground.proofs.Rising.{falls_itself}
-use Rattle.ip_session.specs.Session.{state_in}
 use Rattle.ip_held.proofs.KeptFiles.{keeps_itself}
 use Rattle.ip_app.proofs.Counting.{spawns_itself}
 use Rattle.ip_app.proofs.SaidLemmas.{took_of, turned_in, left_unsaid}
@@ -8,7 +7,7 @@ use Rattle.ip_app.proofs.TurnLemmas.{stops_reading, stops_short}
 use Rattle.ip_app.proofs.serve.LineRoom.turn.Goals as goal
 
 pub returns-in-Err-clause-stops : goal.returns-in-Err-clause-stops
-returns-in-Err-clause-stops g c known r v works = stops_reading _ c.in-Err.status known _ _ _ _ _ _ c.args.session.now.store.held (state_in c.args.session.now r v) (record {
+returns-in-Err-clause-stops g c known r v works = stops_reading _ c.in-Err.status known _ _ _ _ _ _ c.args.session.now c.args.session.now r v (record {
   rest = c.next_line.new.line.items;
   goes_on = record { dir = refl; source_tells = refl; ground_tells = refl; spawner_tells = refl; log_tells = λ tells. tells; read_faults = c.next_line.ensures.faults; counts = falls_itself (g.G.Ground.counts_of c.args.ground.now); spawns = spawns_itself (g.P.Spawner.counts_of c.args.spawner.now) };
   files = keeps_itself (g.G.Ground.told c.args.ground.now);
@@ -33,7 +32,7 @@ pub returns-in-Err-exchange-clause-stops : goal.returns-in-Err-exchange-clause-s
 returns-in-Err-exchange-clause-stops g c known r v works =
     let line = c.next_line.new.line.items in
     let cut = c.in-Err-exchange.ensures.cut g.S.Source.tells (g.S.Source.left c.args.source.now) (g.S.Source.read_faults c.args.source.now) known r v works in
-    stops_short _ c.in-Err-exchange.status known _ _ line _ c.args.self.now.lines c.next_line.new.self _ _ c.args.session.now.store.held (state_in c.args.session.now r v) (g.S.Source.left c.next_line.new.source) (g.S.Source.read_faults c.next_line.new.source)
+    stops_short _ c.in-Err-exchange.status known _ _ line _ c.args.self.now.lines c.next_line.new.self _ _ c.args.session.now c.exchange.new.session r v (g.S.Source.left c.next_line.new.source) (g.S.Source.read_faults c.next_line.new.source)
     cut c.deref.ensures.value (took_of _ _ _ _ line c.in_default.ensures.ok c.in_default.ensures.count) c.in_default.ensures.still
 
 pub returns-in-Ok-clause-turned : goal.returns-in-Ok-clause-turned
