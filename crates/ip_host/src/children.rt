@@ -1,6 +1,6 @@
 // Real children.
-ghost use Rattle.std.specs.Prelude.{◌≡◌, None, Some, IfOk, string_bytes};
-ghost use Rattle.std.specs.Process.{command_program, command_args, command_dir};
+ghost use Rattle.std.specs.Prelude.{◌≡◌, ℕ, List, None, Some, IfOk, OnErr, false, string_bytes};
+ghost use Rattle.std.specs.Process.{command_program, command_args, command_dir, command_var, clears_env};
 ghost use Rattle.ip_host.specs.Children.{child_words, folder_word};
 
 use crate::causes::{Cause, Subject};
@@ -34,11 +34,11 @@ pub struct Children<R: Processes<Started = SystemProcess> + Files + Drop> {
 }
 
 impl<R: Processes<Started = SystemProcess> + Files + Drop> Children<R> {
-    ghost use Rattle.std.specs.Prelude.{IsSome, IsTrue, IfSome, is_ok, is_err, true, false};
+    ghost use Rattle.std.specs.Prelude.{IsSome, IsTrue, IfSome, is_ok, is_err, true};
     ghost use Rattle.ip_spawn.specs.Children.{end_reaped, held_after};
     ghost use Rattle.ip_spawn.specs.Counts.{Counts};
     ghost use Rattle.ip_spawn.specs.declared.spawner.SpawnCounts.{SpawnCounts};
-    ghost use Rattle.ip_host.specs.Started.{IsFor, HasEnded};
+    ghost use Rattle.ip_host.specs.Started.{IsFor, StartsOne, HasEnded, was_signalled};
 
     /// No child yet, and no fault. A program without a slash in its name is looked for in the search path.
     pub fn new(rt: R, alloc: Global, program: String) -> Children<R>
@@ -74,9 +74,11 @@ impl<R: Processes<Started = SystemProcess> + Files + Drop> Children<R> {
         }
     }
 
-    // Starts the program with the child's words.
-    fn begin(&self, dir: &str, job: &Job) -> io::Result<Held>
-        ensures { IfOk result (IsFor dir.now job.now) }
+    // Starts the program with the child's words, once.
+    fn begin(&mut self, dir: &str, job: &Job) -> io::Result<Held>
+        ensures child { IfOk result (IsFor dir.now job.now) }
+        ensures one { StartsOne (is_ok result) self.old.starter.starts self.new.starter.starts }
+        ensures only { self.new ≡ record self.old { starter = self.new.starter } }
     {
         let command = command_of(self.alloc, self.starter.program(), dir, job)?;
         self.starter.spawn(&command, dir, job)
@@ -108,6 +110,9 @@ impl<R: Processes<Started = SystemProcess> + Files + Drop> Children<R> {
         ensures held { ⟦<Children<R> as Spawner>⟧.held self.new ≡ held_after (end_reaped result) (⟦<Children<R> as Spawner>⟧.held self.old) }
         ensures counts { Counts false false (is_ok result) (is_err result) self.old.counts self.new.counts }
         ensures ended { IfSome (end_reaped result) (HasEnded self.old.held self.new.ended) }
+        ensures unsignalled { IfOk result (λ _. was_signalled self.new.ended ≡ was_signalled self.old.held) }
+        ensures stays { OnErr result (was_signalled self.new.held ≡ was_signalled self.old.held) }
+        ensures starter { self.new.starter ≡ self.old.starter }
     {
         let Some(mut held) = self.held.take() else {
             unreachable!()
@@ -123,10 +128,10 @@ impl<R: Processes<Started = SystemProcess> + Files + Drop> Children<R> {
 }
 
 impl<R: Processes<Started = SystemProcess> + Files + Drop> Spawner for Children<R> {
-    ghost use Rattle.std.specs.Prelude.{true, false, option_map, IsTrue, IsSome, IfSome, OnOk, is_some, is_ok, is_err};
+    ghost use Rattle.std.specs.Prelude.{true, option_map, IsTrue, IsSome, IsSomeAnd, IfSome, IfNone, OnOk, is_some, is_ok, is_err};
     ghost use Rattle.ip_spawn.specs.Children.{blank, held_after_start, told_after_start, end_seen, end_reaped, is_running, held_after, told_after};
     ghost use Rattle.ip_spawn.specs.Counts.{Counts};
-    ghost use Rattle.ip_host.specs.Started.{IsFor, HasEnded};
+    ghost use Rattle.ip_host.specs.Started.{IsFor, StartsOne, HasEnded, was_signalled};
 
     ghost tells = { false };
 
@@ -136,13 +141,14 @@ impl<R: Processes<Started = SystemProcess> + Files + Drop> Spawner for Children<
 
     ghost counts_of = { λ children. children.counts };
 
-    // The trait's clauses, and that the child is the one for this folder and job.
+    // The trait's clauses, and that the child is the one for this folder and job, and no other was started.
     fn start(&mut self, dir: &str, job: &Job) -> Result<(), SpawnFault>
         requires { ⟦<Children<R> as Spawner>⟧.held self.old ≡ None }
         ensures held { ⟦<Children<R> as Spawner>⟧.held self.new ≡ held_after_start job.now result }
         ensures told { IsTrue ⟦<Children<R> as Spawner>⟧.tells → ⟦<Children<R> as Spawner>⟧.told self.new ≡ told_after_start dir.now job.now result (⟦<Children<R> as Spawner>⟧.told self.old) }
         ensures counts { Counts false false false (is_err result) self.old.counts self.new.counts }
         ensures child { OnOk result (IfSome self.new.held (IsFor dir.now job.now)) }
+        ensures one { StartsOne (is_ok result) self.old.starter.starts self.new.starter.starts }
     {
         match self.begin(dir, job) {
             Ok(held) => {
@@ -156,7 +162,8 @@ impl<R: Processes<Started = SystemProcess> + Files + Drop> Spawner for Children<
         }
     }
 
-    // Here and below: the trait's clauses, and that an end which is told is that of the child that was held.
+    // Here and below: the trait's clauses, that an end which is told is that of the child that was held, whether this was
+    // sent the signal, and that none was started.
     fn look(&mut self) -> Result<Look, SpawnFault>
         requires { IsSome (⟦<Children<R> as Spawner>⟧.held self.old) }
         ensures attempt { IfSome (end_seen result) (λ reaped. ⟦<Children<R> as Spawner>⟧.held self.old ≡ Some reaped.attempt) }
@@ -164,6 +171,9 @@ impl<R: Processes<Started = SystemProcess> + Files + Drop> Spawner for Children<
         ensures told { IsTrue ⟦<Children<R> as Spawner>⟧.tells → ⟦<Children<R> as Spawner>⟧.told self.new ≡ told_after (end_seen result) (⟦<Children<R> as Spawner>⟧.told self.old) }
         ensures counts { Counts (is_running result) false (is_some (end_seen result)) (is_err result) self.old.counts self.new.counts }
         ensures ended { IfSome (end_seen result) (HasEnded self.old.held self.new.ended) }
+        ensures unsignalled { IfSome (end_seen result) (λ _. was_signalled self.new.ended ≡ was_signalled self.old.held) }
+        ensures stays { IfNone (end_seen result) (was_signalled self.new.held ≡ was_signalled self.old.held) }
+        ensures starter { self.new.starter ≡ self.old.starter }
     {
         let Some(held) = &self.held else {
             unreachable!()
@@ -185,6 +195,9 @@ impl<R: Processes<Started = SystemProcess> + Files + Drop> Spawner for Children<
         ensures told { IsTrue ⟦<Children<R> as Spawner>⟧.tells → ⟦<Children<R> as Spawner>⟧.told self.new ≡ told_after (end_reaped result) (⟦<Children<R> as Spawner>⟧.told self.old) }
         ensures counts { Counts false true (is_ok result) (is_err result) self.old.counts self.new.counts }
         ensures ended { IfSome (end_reaped result) (HasEnded self.old.held self.new.ended) }
+        ensures unsignalled { IfOk result (λ _. was_signalled self.new.ended ≡ was_signalled self.old.held) }
+        ensures stays { OnErr result (was_signalled self.new.held ≡ was_signalled self.old.held) }
+        ensures starter { self.new.starter ≡ self.old.starter }
     {
         self.counts.waits = self.counts.waits.saturating_add(1);
         self.reap()
@@ -197,6 +210,8 @@ impl<R: Processes<Started = SystemProcess> + Files + Drop> Spawner for Children<
         ensures told { IsTrue ⟦<Children<R> as Spawner>⟧.tells → ⟦<Children<R> as Spawner>⟧.told self.new ≡ told_after (end_reaped result) (⟦<Children<R> as Spawner>⟧.told self.old) }
         ensures counts { Counts false false (is_ok result) (is_err result) self.old.counts self.new.counts }
         ensures ended { IfSome (end_reaped result) (HasEnded self.old.held self.new.ended) }
+        ensures signalled { IfOk result (λ _. was_signalled self.new.ended ≡ Some true) }
+        ensures starter { self.new.starter ≡ self.old.starter }
     {
         let Some(mut held) = self.held.take() else {
             unreachable!()
@@ -218,6 +233,8 @@ fn command_of(alloc: Global, program: &str, dir: &str, job: &Job) -> Result<Comm
     ensures program { IfOk result (λ command. command_program command ≡ program.now) }
     ensures words { IfOk result (λ command. command_args command ≡ child_words dir.now job.now) }
     ensures place { IfOk result (λ command. command_dir command ≡ None) }
+    ensures inherits { IfOk result (λ command. clears_env command ≡ false) }
+    ensures vars { IfOk result (λ command. (name : List ℕ) → command_var command name ≡ None) }
 {
     let mut command = Command::new(alloc, program)?;
     let folder = folder_word(alloc, dir)?;

@@ -143,10 +143,10 @@ impl<R: Files<File = File> + Print + Drop> Folder<R> {
 }
 
 impl<R: Files<File = File> + Print + Drop> Ground for Folder<R> {
-    ghost use Rattle.std.specs.Prelude.{false, IsTrue, OnOk, IsSomeAnd};
+    ghost use Rattle.std.specs.Prelude.{false, IsTrue, IsFalse, OnOk, IsSomeAnd};
     ghost use Rattle.ip_ground.specs.Told.{silent};
-    ghost use Rattle.ip_ground.specs.Calls.{Passes};
-    ghost use Rattle.ip_ground.specs.Counts.{Attaches};
+    ghost use Rattle.ip_ground.specs.Calls.{Passes, Syncs};
+    ghost use Rattle.ip_ground.specs.Counts.{Attaches, CountsAs};
     ghost use Rattle.ip_ground.specs.Failing.{Refuses};
 
     ghost tells = { false };
@@ -218,7 +218,13 @@ impl<R: Files<File = File> + Print + Drop> Ground for Folder<R> {
         }
     }
 
-    fn sync(&mut self, file: FileName) -> Result<(), GroundFault> {
+    // The trait's clauses, and that the folder was synced where a name may have come or gone.
+    fn sync(&mut self, file: FileName) -> Result<(), GroundFault>
+        ensures does { IsTrue ⟦<Folder<R> as Ground>⟧.tells → Syncs file result (⟦<Folder<R> as Ground>⟧.told self.old) (⟦<Folder<R> as Ground>⟧.told self.new) }
+        ensures counts { CountsAs FileFault result (⟦<Folder<R> as Ground>⟧.counts_of self.old) (⟦<Folder<R> as Ground>⟧.counts_of self.new) }
+        ensures refused { Refuses result (⟦<Folder<R> as Ground>⟧.refuses self.old) (⟦<Folder<R> as Ground>⟧.refuses self.new) }
+        ensures synced { OnOk result (IsSomeAnd self.new.files (λ files. IsFalse files.is_changed)) }
+    {
         let synced = match &mut self.files {
             Some(files) => files.sync(&self.rt, file),
             None => Err(unattached()),

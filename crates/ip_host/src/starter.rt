@@ -1,7 +1,7 @@
 // What of the system a child's process needs: one is started, looked for, waited for and ended here and nowhere else in
 // this crate, each by the fewest lines, since no clause of the system's calls says what they do.
-ghost use Rattle.std.specs.Prelude.{◌≡◌, None, Some, IfOk, string_bytes};
-ghost use Rattle.std.specs.Process.{command_program, command_args, command_dir, exit_code};
+ghost use Rattle.std.specs.Prelude.{◌≡◌, ℕ, List, None, Some, IfOk, false, string_bytes};
+ghost use Rattle.std.specs.Process.{command_program, command_args, command_dir, command_var, clears_env, exit_code};
 ghost use Rattle.ip_host.specs.Children.{child_words, exit_by, exit_told};
 
 use crate::names::path_of;
@@ -71,15 +71,23 @@ pub struct Starter<R: Processes<Started = SystemProcess> + Files + Drop> {
     rt: R,
     alloc: Global,
     program: String,
+    // how many children the system was asked for
+    starts: u64,
 }
 
 impl<R: Processes<Started = SystemProcess> + Files + Drop> Starter<R> {
-    ghost use Rattle.ip_host.specs.Started.{IsFor};
+    ghost use Rattle.std.specs.Prelude.{is_ok};
+    ghost use Rattle.ip_host.specs.Started.{IsFor, StartsOne};
 
     pub fn new(rt: R, alloc: Global, program: String) -> Starter<R>
         ensures { result.program ≡ program }
     {
-        Starter { rt, alloc, program }
+        Starter {
+            rt,
+            alloc,
+            program,
+            starts: 0,
+        }
     }
 
     /// The program that is started.
@@ -90,15 +98,21 @@ impl<R: Processes<Started = SystemProcess> + Files + Drop> Starter<R> {
     }
 
     /// Starts a child by this command, which has to be the one for this folder and job. Its input is empty, and what it
-    /// writes is dropped.
-    pub fn spawn(&self, command: &Command, dir: &str, job: &Job) -> io::Result<Held>
-        requires program { command_program command.now ≡ string_bytes self.now.program }
+    /// writes is dropped. No other function asks the system for one.
+    pub fn spawn(&mut self, command: &Command, dir: &str, job: &Job) -> io::Result<Held>
+        requires program { command_program command.now ≡ string_bytes self.old.program }
         requires words { command_args command.now ≡ child_words dir.now job.now }
         requires place { command_dir command.now ≡ None }
-        ensures { IfOk result (IsFor dir.now job.now) }
+        // no variable is set, and none removed
+        requires inherits { clears_env command.now ≡ false }
+        requires vars { (name : List ℕ) → command_var command.now name ≡ None }
+        ensures child { IfOk result (IsFor dir.now job.now) }
+        ensures one { StartsOne (is_ok result) self.old.starts self.new.starts }
+        ensures same { self.new ≡ record self.old { starts = self.new.starts } }
     {
         let done = path_of(self.alloc, dir, FileName::Done(job.attempt))?;
         let none = Stdio::null();
+        self.starts = self.starts.saturating_add(1);
         let child = self.rt.spawn(command, &none, &none, &none)?;
         Ok(Held {
             job: *job,

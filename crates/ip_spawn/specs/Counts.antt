@@ -13,9 +13,10 @@ pub record Counts (ran waited reaped failed : Bool) (old new : SpawnCounts) : Ty
   pub running : new.running ≡ counted ran old.running
   pub waits : new.waits ≡ counted waited old.waits
   pub reaps : new.reaps ≡ counted reaped old.reaps
+  pub spawn_faults : new.spawn_faults ≡ counted failed old.spawn_faults
   -- none falls
   pub running_stays : old.running ≤ new.running
   pub waits_stay : old.waits ≤ new.waits
   pub reaps_stay : old.reaps ≤ new.reaps
-  pub spawn_faults : old.spawn_faults ≤ new.spawn_faults
+  pub spawn_faults_stay : old.spawn_faults ≤ new.spawn_faults
   pub cause : IsTrue failed → Rose old.spawn_faults new.spawn_faults
