@@ -129,8 +129,11 @@ module _ (size from end : ℕ) (front bytes : List ℕ) (ends : from + length fr
   front_stands : Holds size from front b.held
   front_stands k lt = appends.others (from + k) (λ between. absurd (omega (arith, between.0, lt, ends))) ∙ holds k lt
 
+  behind_bytes : (at : ℕ) → end + length bytes ≤ at → chunk_byte size b.held at ≡ chunk_byte size a.held at
+  behind_bytes at far = appends.others at (λ between. absurd (omega (arith, between.1, far)))
+
   pub stops_at_append : (s : Result (Unit {0}) GroundFault) → IsErr s → AppendsKept size from end front bytes s a b
-  stops_at_append s failed = record { only = appends.only; held = IfOk-from_err s _ failed; synced = IfOk-from_err s _ failed; since = front_since; kept = λ leaves. IfOk-from_err s _ failed }
+  stops_at_append s failed = record { only = appends.only; behind = behind_bytes; held = IfOk-from_err s _ failed; synced = IfOk-from_err s _ failed; since = front_since; kept = λ leaves. IfOk-from_err s _ failed }
 
 module _ (size from end : ℕ) (front bytes : List ℕ) (ends : from + length front ≡ end) (a b c : Told) (holds : Holds size from front a.held) (appends : Appends size end bytes (Ok tt) a b)
     (r : Result (Unit {0}) GroundFault) (syncs : SyncsRange size end (end + length bytes) r b c) where
@@ -160,6 +163,7 @@ module _ (size from end : ℕ) (front bytes : List ℕ) (ends : from + length fr
   pub appends_kept : (s : Result (Unit {0}) GroundFault) → Exit r s → AppendsKept size from end front bytes s a c
   appends_kept s exit = record {
     only = only_on a b c (IsChunkBetween size end (end + length bytes)) appends.only syncs.only.changes;
+    behind = λ at far. byte_stays size at b c stays ∙ behind_bytes size from end front bytes ends a b holds (Ok tt) appends at far;
     held = exit_holds r s _ exit both_stand;
     synced = exit_ok r s _ exit syncs.ok;
     since = since_both;

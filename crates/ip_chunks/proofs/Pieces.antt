@@ -1,12 +1,12 @@
 -- Calls on one chunk each, one behind the other, are a call on them all.
 --     steps_on      what a crash may leave, over both
---     appends_both, append_next      appends.      appends_stopped      where one failed.      no_gap_here      each may follow those before it
+--     appends_both, append_next      appends.      only_next      which files they change.      appends_stopped      where one failed.      no_gap_here      each may follow those before it
 --     Read, reads_both, read_next      what was read without a gap so far.      reads_short, reads_stopped      where a read ends
 use borrow.Rule.Slice.PartMut.{put_mid, post_of}
 use Rattle.std.proofs.Common.{◌≡◌, ℕ, ◌+◌, ◌-◌, ◌<◌, ◌≤◌, List, ◌++◌, length, take, drop, None, inl, inr, sym, ◌∙◌, ap, subst, arith, length-append}
 use Rattle.std.specs.Prelude.{IsSome, Result, Ok, IsErr}
 use Rattle.std.proofs.lemmas.Bool.{cases_lt}
-use Rattle.std.proofs.lemmas.List.{length-take-le, length-drop, take-append-le}
+use Rattle.std.proofs.lemmas.List.{length-take, length-take-le, length-drop, take-append-le}
 use Rattle.std.proofs.Math.Seq.{take-add, take-append-add}
 use Rattle.std.proofs.lemmas.Result.{IfOk-from_err, on_ok_weaker}
 use Rattle.ip_ground.specs.declared.names.FileName.{FileName}
@@ -105,6 +105,14 @@ append_next size end bytes done count r a b c within first next =
     let piece = subst (λ (n : ℕ). Appends size (end + done) (take n (drop done bytes)) r b c) (omega arith) next in
     let behind = subst (λ (n : ℕ). Appends size (end + n) (take count (drop done bytes)) r b c) (sym (length-take-le done bytes within)) piece in
     subst (λ (l : List ℕ). Appends size end l r a c) (sym (take-add done count bytes)) (appends_both size end (take done bytes) (take count (drop done bytes)) r a b c first behind)
+
+-- and no other file changes, whatever the files are
+pub only_next : (size end : ℕ) (bytes : List ℕ) (done k : ℕ) (a b c : Told) → done ≤ length bytes → ChangesOnly (IsChunkBetween size end (end + length bytes)) a b
+    → ChangesOnly (IsChunkBetween size (end + done) (end + done + length (take k (drop done bytes)))) b c → ChangesOnly (IsChunkBetween size end (end + length bytes)) a c
+only_next size end bytes done k a b c within first next =
+    only_on a b c (IsChunkBetween size end (end + length bytes)) first
+    (only_more b c (IsChunkBetween size (end + done) (end + done + length (take k (drop done bytes)))) (IsChunkBetween size end (end + length bytes))
+    (λ file is. (is.0, (omega (arith, is.1.0), omega (arith, is.1.1, length-take k (drop done bytes), length-drop done bytes, within)), is.2)) next)
 
 -- ---- reads
 

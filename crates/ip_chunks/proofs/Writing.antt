@@ -9,7 +9,7 @@ use Rattle.ip_ground.specs.declared.names.FileName.TheVariants.{Chunk}
 use Rattle.ip_ground.specs.declared.names.GroundFault.{GroundFault}
 use Rattle.ip_ground.specs.Contents.{Content, Image, bytes_of, size_of, written, Torn}
 use Rattle.ip_ground.specs.Writing.{torn_written}
-use Rattle.ip_ground.specs.Told.{Told, ChangesLeft, Only}
+use Rattle.ip_ground.specs.Told.{Told, ChangesLeft, Only, ChangesOnly}
 use Rattle.ip_ground.specs.Calls.{Reads, Writes}
 use Rattle.ip_ground.proofs.Spans.{only_more}
 use Rattle.ip_image.specs.Virtual.{Stands, byte_of, chunk_of, place_in_chunk}
@@ -36,6 +36,10 @@ reaches size at some image no_gap = elim (cases_lt 0 (place_in_chunk size at)) [
       where
         start_low : place_in_chunk size at ≤ at
         start_low = omega arith
+
+-- bytes at a place change no file but its chunk
+pub only_piece : (size end : ℕ) (bytes : List ℕ) → 0 < length bytes → (a b : Told) → ChangesOnly (Only (Chunk (chunk_of size end))) a b → ChangesOnly (IsChunkBetween size end (end + length bytes)) a b
+only_piece size end bytes some a b only = only_more a b (Only (Chunk (chunk_of size end))) (IsChunkBetween size end (end + length bytes)) (λ f is. (end, (omega arith, omega (arith, some)), is)) only
 
 module _ (size end : ℕ) (some_size : 0 < size) (bytes : List ℕ) (some : 0 < length bytes) (inside : length bytes ≤ size - place_in_chunk size end) (a b : Told) where
   abbrev number : ℕ
@@ -110,7 +114,7 @@ module _ (size end : ℕ) (some_size : 0 < size) (bytes : List ℕ) (some : 0 < 
 
     pub appends : Appends size end bytes r a b
     appends = record {
-      only = only_more a b (Only (Chunk number)) (IsChunkBetween size end (end + length bytes)) (λ f is. (end, (omega arith, omega (arith, some)), is)) writes.only;
+      only = only_piece size end bytes some a b writes.only;
       ok = on_ok_weaker r stand_then (writes.ok (λ x. x));
       others = stays;
       no_new_gap = no_new_gap;

@@ -5,7 +5,7 @@
 --     EachByteNow, EachByteSince      each byte that a crash may leave at a place
 --     Leaves size at bytes told      a crash leaves these bytes.      LeavesSince size at bytes old new      at each moment since old
 --     AppendsKept size from end front bytes result old new      an append at the end of a front and a sync of it
-use Rattle.std.specs.Prelude.{◌≡◌, ℕ, ◌+◌, ◌<◌, List, ◌++◌, length, filter_map, Option, slice_get, Result, OnOk}
+use Rattle.std.specs.Prelude.{◌≡◌, ℕ, ◌+◌, ◌<◌, ◌≤◌, List, ◌++◌, length, filter_map, Option, slice_get, Result, OnOk}
 use Rattle.std.specs.List.{range_with_len}
 use Rattle.ip_ground.specs.declared.names.FileName.{FileName}
 use Rattle.ip_ground.specs.declared.names.GroundFault.{GroundFault}
@@ -37,6 +37,8 @@ LeavesSince size at bytes old new = (k : ℕ) → k < length bytes → EachByteS
 -- crash left the front before, it does so at each moment, and after Ok it leaves both.
 pub record AppendsKept (size from end : ℕ) (front bytes : List ℕ) (result : Result (Unit {0}) GroundFault) (old new : Told) : Type 0 where
   pub only : ChangesOnly (IsChunkBetween size end (end + length bytes)) old new
+  -- behind the bytes all is as it was
+  pub behind : (at : ℕ) → end + length bytes ≤ at → chunk_byte size new.held at ≡ chunk_byte size old.held at
   pub held : OnOk result (Holds size from (front ++ bytes) new.held)
   pub synced : OnOk result ((file : FileName) → IsChunkBetween size end (end + length bytes) file → IsSynced new file)
   pub since : Leaves size from front old → LeavesSince size from front old new

@@ -2,9 +2,10 @@
 ghost use Rattle.std.specs.Prelude.{◌≡◌, ◌+◌, ◌-◌, ◌<◌, ◌≤◌, min, Ok, IsTrue, IfOk, OnErr, length};
 ghost use Rattle.ip_base.specs.declared.limit.TheConstants.{OFFSET_MAX};
 ghost use Rattle.ip_ground.specs.Counts.{CountsAs, CountsLeft, FileFault};
+ghost use Rattle.ip_ground.specs.Told.{ChangesOnly};
 ghost use Rattle.ip_image.specs.Slot.{IsChunkSize};
 ghost use Rattle.ip_image.specs.Virtual.{place_in_chunk};
-ghost use Rattle.ip_chunks.specs.Places.{chunk_start, chunk_file, NoGap};
+ghost use Rattle.ip_chunks.specs.Places.{chunk_start, chunk_file, NoGap, IsChunkBetween};
 ghost use Rattle.ip_chunks.specs.Effects.{Appends, ReadsAt, SyncsRange, Sweeps};
 
 use ip_ground::{FileName, Ground, GroundFault};
@@ -46,6 +47,8 @@ impl Chunks {
         requires allowed { IsChunkSize self.now.size }
         requires room { end + length bytes.now ≤ OFFSET_MAX }
         ensures does { IsTrue G.tells → NoGap self.now.size (G.told outside.old).held (chunk_start self.now.size end) end → Appends self.now.size end bytes.now result (G.told outside.old) (G.told outside.new) }
+        // whatever the files are
+        ensures only { IsTrue G.tells → ChangesOnly (IsChunkBetween self.now.size end (end + length bytes.now)) (G.told outside.old) (G.told outside.new) }
         ensures empty { length bytes.now ≡ 0 → (result ≡ Ok tt) × (outside.new ≡ outside.old) }
         ensures counts { CountsAs FileFault result (G.counts_of outside.old) (G.counts_of outside.new) }
     {
@@ -71,6 +74,7 @@ impl Chunks {
         requires some { 0 < length bytes.now }
         requires within { length bytes.now ≤ self.now.size - place_in_chunk self.now.size at }
         ensures does { IsTrue G.tells → NoGap self.now.size (G.told outside.old).held (chunk_start self.now.size at) at → Appends self.now.size at bytes.now result (G.told outside.old) (G.told outside.new) }
+        ensures only { IsTrue G.tells → ChangesOnly (IsChunkBetween self.now.size at (at + length bytes.now)) (G.told outside.old) (G.told outside.new) }
         ensures counts { CountsAs FileFault result (G.counts_of outside.old) (G.counts_of outside.new) }
     {
         let (file, place) = self.file_of(at);

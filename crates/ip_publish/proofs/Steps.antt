@@ -14,10 +14,10 @@ use Rattle.ip_image.specs.Virtual.{chunk_of}
 use Rattle.ip_chunks.specs.Places.{IsChunkBetween}
 use Rattle.ip_chunks.specs.Effects.{Appends, SyncsRange}
 use Rattle.ip_chunks.specs.Fronts.{Holds, Leaves, LeavesSince, AppendsKept}
-use Rattle.ip_chunks.proofs.Behind.{leaves_on, leaves_stay, images_with, holds_stay, holds_front, front_holds, front_ends, stops_at_append, appends_kept}
+use Rattle.ip_chunks.proofs.Behind.{leaves_on, leaves_stay, byte_stays, images_with, holds_stay, holds_front, front_holds, front_ends, stops_at_append, appends_kept}
 use Rattle.ip_control.specs.Live.{Live, live_slot, live_of, IsSpare, IsNewer}
 use Rattle.ip_control.specs.Changes.{control, IsReady, Prepares, OpensGate}
-use Rattle.ip_publish.specs.Publishing.{front_in, StandsAs, CanStep, IsWritten, MakesStep}
+use Rattle.ip_publish.specs.Publishing.{front_in, StandsAs, CanStep, IsWritten, WritesTo, MakesStep}
 
 chunk_not_control : (number : ℕ) → Chunk number ≢ Control
 chunk_not_control number is = cc (is)
@@ -29,9 +29,23 @@ control_not_chunk number is = cc (is)
 chunks_stay : (a b : Told) → ChangesOnly (Only Control) a b → (number : ℕ) → SyncsAtMost a b (Chunk number)
 chunks_stay a b only number = at_most a b (Chunk number) (only.others (Chunk number) (chunk_not_control number))
 
+-- which files change, whatever they are: by the records, and by a call on the control file behind them
+module _ (size from to : ℕ) where
+  pub records_only : (a b : Told) → ChangesOnly (IsChunkBetween size from to) a b → ChangesOnly (IsWritten size from to) a b
+  records_only a b only = only_more a b (IsChunkBetween size from to) (IsWritten size from to) (λ f is. inr is) only
+
+  pub control_only : (a b c : Told) → ChangesOnly (IsWritten size from to) a b → ChangesOnly (Only Control) b c → ChangesOnly (IsWritten size from to) a c
+  control_only a b c first only = only_on a b c (IsWritten size from to) first (only_more b c (Only Control) (IsWritten size from to) (λ f is. inl is) only)
+
+  writes_on : (a b c : Told) → WritesTo size from to a b → ChangesOnly (Only Control) b c → WritesTo size from to a c
+  writes_on a b c first only = record { only = control_only a b c first.only only; behind = λ at far. byte_stays size at b c (chunks_stay b c only) ∙ first.behind at far }
+
 module _ (end : ℕ) (bytes : List ℕ) (slot : ℕ) (fields : Slot) (a : Told) (sound : CanStep end slot fields a) where
   abbrev before : Live
   before = live_of (control a)
+
+  abbrev to : ℕ
+  to = end + length bytes
 
   abbrev after : Live
   after = live_slot slot (slot_bytes fields)
@@ -77,8 +91,8 @@ module _ (end : ℕ) (bytes : List ℕ) (slot : ℕ) (fields : Slot) (a : Told) 
     live_ab = each_stays a b Control (λ x. live_of x ≡ before) (λ x. x) control_stays (now_from_kept Control a (λ x. live_of x ≡ before) sound.ready.kept refl)
 
   module _ (b : Told) (r : Result (Unit {0}) GroundFault) (writes : AppendsKept fields.chunk fields.horizon end front bytes r a b) where
-    only_ab : ChangesOnly (IsWritten fields.chunk end) a b
-    only_ab = only_more a b (IsChunkBetween fields.chunk end (end + length bytes)) (IsWritten fields.chunk end) (λ f is. inr (is.0, is.1.0, is.2)) writes.only
+    writes_ab : WritesTo fields.chunk end to a b
+    writes_ab = record { only = records_only fields.chunk end to a b writes.only; behind = writes.behind }
 
     images_ab : Leaves fields.chunk fields.horizon front a → EachImage a b Either
     images_ab left =
@@ -86,7 +100,7 @@ module _ (end : ℕ) (bytes : List ℕ) (slot : ℕ) (fields : Slot) (a : Told) 
         (λ image live holds. inl (live, holds))
 
     stops_at_records : (s : Result (Unit {0}) GroundFault) → IsErr s → MakesStep end bytes slot fields s a b
-    stops_at_records s is_err = record { only = only_ab; held = IfOk-from_err s _ is_err; kept = IfOk-from_err s _ is_err; front = λ left. IfOk-from_err s _ is_err; images = images_ab }
+    stops_at_records s is_err = record { writes = writes_ab; held = IfOk-from_err s _ is_err; kept = IfOk-from_err s _ is_err; front = λ left. IfOk-from_err s _ is_err; images = images_ab }
 
   pub stops_at_write : (b : Told) (r s : Result (Unit {0}) GroundFault) → IsErr s → Appends fields.chunk end bytes r a b → MakesStep end bytes slot fields s a b
   stops_at_write b r s is_err appends =
@@ -111,8 +125,8 @@ module _ (end : ℕ) (bytes : List ℕ) (slot : ℕ) (fields : Slot) (a : Told) 
     live_bc : EachSince b c Control (λ x. live_of x ≡ before)
     live_bc = each_weaker b c Control _ _ prepared.live (λ x same. same ∙ ap live_of (control_same b writes.only))
 
-    only_ac : ChangesOnly (IsWritten fields.chunk end) a c
-    only_ac = only_on a b c (IsWritten fields.chunk end) (only_ab b (Ok tt) writes) (only_more b c (Only Control) (IsWritten fields.chunk end) (λ f is. inl is) prepared.changes.only)
+    writes_ac : WritesTo fields.chunk end to a c
+    writes_ac = writes_on fields.chunk end to a b c (writes_ab b (Ok tt) writes) prepared.changes.only
 
     images_ac : Leaves fields.chunk fields.horizon front a → EachImage a c Either
     images_ac left = images_on a b c Either prepared.changes.only.goes (images_ab b (Ok tt) writes left)
@@ -120,7 +134,7 @@ module _ (end : ℕ) (bytes : List ℕ) (slot : ℕ) (fields : Slot) (a : Told) 
         (λ image live holds. inl (live, holds_front fields.chunk fields.horizon front bytes image holds)))
 
     pub stops_at_prepare : (s : Result (Unit {0}) GroundFault) → IsErr s → MakesStep end bytes slot fields s a c
-    stops_at_prepare s is_err = record { only = only_ac; held = IfOk-from_err s _ is_err; kept = IfOk-from_err s _ is_err; front = λ left. IfOk-from_err s _ is_err; images = images_ac }
+    stops_at_prepare s is_err = record { writes = writes_ac; held = IfOk-from_err s _ is_err; kept = IfOk-from_err s _ is_err; front = λ left. IfOk-from_err s _ is_err; images = images_ac }
 
   -- the gate is opened
   module _ (b c d : Told) (writes : AppendsKept fields.chunk fields.horizon end front bytes (Ok tt) a b) (prepared : Prepares slot fields (Ok tt) b c) (possible : IsPossibleNow c) where
@@ -138,7 +152,7 @@ module _ (end : ℕ) (bytes : List ℕ) (slot : ℕ) (fields : Slot) (a : Told) 
 
     pub makes_step : (s : Result (Unit {0}) GroundFault) → OpensGate slot s c d → MakesStep end bytes slot fields s a d
     makes_step s opens = record {
-      only = only_on a c d (IsWritten fields.chunk end) (only_ac b c writes (Ok tt) prepared) (only_more c d (Only Control) (IsWritten fields.chunk end) (λ f is. inl is) opens.changes.only);
+      writes = writes_on fields.chunk end to a c d (writes_ac b c writes (Ok tt) prepared) opens.changes.only;
       held = on_ok_weaker s (λ is. (ap live_of is ∙ prepared.next, both_stand opens.changes.only)) opens.opens;
       kept = opens.kept;
       front = λ left. on_ok_weaker s

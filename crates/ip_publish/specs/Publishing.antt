@@ -2,10 +2,11 @@
 --     front_in fields end image      the bytes of the records before it
 --     StandsAs size from live bytes image      this slot is live, and these bytes stand in the chunks
 --     CanStep end slot fields told      what a step begins with
---     MakesStep end bytes slot fields result old new      what it does.      IsWritten size end file      which files it may change
+--     MakesStep end bytes slot fields result old new      what it does
+--     IsWritten size from to file      the files that it may change.      WritesTo size from to old new      none but these, and no byte of a chunk from the latter place on
 --     TurnsGate slot fields result old new      what making a slot live does that names no more bytes
 --     MayChange image file      those that a call may change which keeps the image's store.      IsOfStore file      and any such call
-use Rattle.std.specs.Prelude.{◌≡◌, ◌⊎◌, ℕ, ◌-◌, ◌≤◌, List, ◌++◌, Result, OnOk}
+use Rattle.std.specs.Prelude.{◌≡◌, ◌⊎◌, ℕ, ◌-◌, ◌≤◌, ◌+◌, List, ◌++◌, length, Result, OnOk}
 use Rattle.ip_ground.specs.declared.names.FileName.{FileName}
 use Rattle.ip_ground.specs.declared.names.FileName.TheVariants.{Control}
 use Rattle.ip_ground.specs.declared.names.GroundFault.{GroundFault}
@@ -14,7 +15,7 @@ use Rattle.ip_ground.specs.Told.{Told, EachImage, EachSince, Only, ChangesOnly, 
 use Rattle.ip_image.specs.declared.slot.Slot.{Slot}
 use Rattle.ip_image.specs.Slot.{slot_bytes}
 use Rattle.ip_image.specs.Pending.{HasLive}
-use Rattle.ip_chunks.specs.Places.{chunk_start, NoGap, IsChunk, IsChunkFrom}
+use Rattle.ip_chunks.specs.Places.{chunk_start, chunk_byte, NoGap, IsChunk, IsChunkBetween, IsChunkFrom}
 use Rattle.ip_chunks.specs.Fronts.{Holds, Leaves, bytes_from}
 use Rattle.ip_control.specs.Live.{Live, live_slot, live_of, IsNewer}
 use Rattle.ip_control.specs.Changes.{control, IsReady}
@@ -34,9 +35,13 @@ pub record CanStep (end slot : ℕ) (fields : Slot) (told : Told) : Type 0 where
   pub ready : IsReady slot told
   pub newer : IsNewer fields.sequence (live_of (control told))
 
--- the control file, or a chunk that holds a place from the end on
-abbrev pub IsWritten : ℕ → ℕ → FileName → Type 0
-IsWritten size end file = (file ≡ Control) ⊎ IsChunkFrom size end file
+-- the control file, or a chunk that holds a place of the range
+abbrev pub IsWritten : ℕ → ℕ → ℕ → FileName → Type 0
+IsWritten size from to file = (file ≡ Control) ⊎ IsChunkBetween size from to file
+
+pub record WritesTo (size from to : ℕ) (old new : Told) : Type 0 where
+  pub only : ChangesOnly (IsWritten size from to) old new
+  pub behind : (at : ℕ) → to ≤ at → chunk_byte size new.held at ≡ chunk_byte size old.held at
 
 -- the control file, or a chunk that holds a place behind the records of the live slot
 abbrev pub MayChange : Image → FileName → Type 0
@@ -47,7 +52,7 @@ abbrev pub IsOfStore : FileName → Type 0
 IsOfStore file = (file ≡ Control) ⊎ IsChunk file
 
 pub record MakesStep (end : ℕ) (bytes : List ℕ) (slot : ℕ) (fields : Slot) (result : Result (Unit {0}) GroundFault) (old new : Told) : Type 0 where
-  pub only : ChangesOnly (IsWritten fields.chunk end) old new
+  pub writes : WritesTo fields.chunk end (end + length bytes) old new
   -- Ok: the records are there, the slot is live, nothing of the control file is pending, and a crash leaves the records where it left those before
   pub held : OnOk result (StandsAs fields.chunk fields.horizon (live_slot slot (slot_bytes fields)) (front_in fields end old.held ++ bytes) new.held)
   pub kept : OnOk result (IsSynced new Control)

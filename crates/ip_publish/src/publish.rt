@@ -8,10 +8,12 @@
 ghost use Rattle.std.specs.Prelude.{◌+◌, ◌<◌, ◌≤◌, length, IsTrue};
 ghost use Rattle.ip_base.specs.declared.limit.TheConstants.{OFFSET_MAX};
 ghost use Rattle.ip_ground.specs.Counts.{CountsAs, FileFault};
+ghost use Rattle.ip_ground.specs.declared.names.FileName.TheVariants.{Control};
+ghost use Rattle.ip_ground.specs.Told.{Only, ChangesOnly};
 ghost use Rattle.ip_image.specs.Slot.{IsChunkSize};
 ghost use Rattle.ip_control.specs.Changes.{control, IsReady};
 ghost use Rattle.ip_control.specs.Live.{live_of, IsNewer};
-ghost use Rattle.ip_publish.specs.Publishing.{CanStep, MakesStep, TurnsGate};
+ghost use Rattle.ip_publish.specs.Publishing.{CanStep, IsWritten, MakesStep, TurnsGate};
 
 use ip_chunks::Chunks;
 use ip_control::{Slot, open_gate, prepare};
@@ -30,6 +32,8 @@ pub fn durable_step<G: Ground>(
     requires chunk { IsChunkSize fields.now.chunk }
     requires room { end + length bytes.now ≤ OFFSET_MAX }
     ensures does { IsTrue G.tells → CanStep end slot fields.now (G.told outside.old) → MakesStep end bytes.now slot fields.now result (G.told outside.old) (G.told outside.new) }
+    // whatever the files are
+    ensures only { IsTrue G.tells → ChangesOnly (IsWritten fields.now.chunk end (end + length bytes.now)) (G.told outside.old) (G.told outside.new) }
     ensures counts { CountsAs FileFault result (G.counts_of outside.old) (G.counts_of outside.new) }
 {
     let chunks = Chunks { size: fields.chunk };
@@ -44,6 +48,8 @@ pub fn durable_step<G: Ground>(
 pub fn turn_gate<G: Ground>(outside: &mut G, slot: u8, fields: &Slot) -> Result<(), GroundFault>
     requires which { slot < 2 }
     ensures does { IsTrue G.tells → IsReady slot (G.told outside.old) → IsNewer fields.now.sequence (live_of (control (G.told outside.old))) → TurnsGate slot fields.now result (G.told outside.old) (G.told outside.new) }
+    // whatever the control file is
+    ensures only { IsTrue G.tells → ChangesOnly (Only Control) (G.told outside.old) (G.told outside.new) }
     ensures counts { CountsAs FileFault result (G.counts_of outside.old) (G.counts_of outside.new) }
 {
     prepare(outside, slot, fields)?;

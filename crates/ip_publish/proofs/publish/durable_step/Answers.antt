@@ -1,5 +1,8 @@
+use Rattle.std.proofs.Common.{◌+◌, length}
 use Rattle.std.specs.Prelude.{Ok}
-use Rattle.ip_publish.proofs.Steps.{written_only, ready_b, newer_b, stops_at_write, stops_at_sync, records_kept, stops_at_prepare, makes_step}
+use Rattle.ip_ground.proofs.Spans.{only_on}
+use Rattle.ip_chunks.specs.Places.{IsChunkBetween}
+use Rattle.ip_publish.proofs.Steps.{records_only, control_only, written_only, ready_b, newer_b, stops_at_write, stops_at_sync, records_kept, stops_at_prepare, makes_step}
 use Rattle.ip_publish.proofs.publish.durable_step.Goals as goal
 
 pub returns-in_err-append-clause-does : goal.returns-in_err-append-clause-does
@@ -30,3 +33,26 @@ returns-clause-does g c told sound =
     let only = written_only c.args.end c.args.bytes.now c.args.slot c.args.fields.now a sound b synced (Ok tt) (Ok tt) appends syncs in
     let prepared = c.in_ok-prepare.ensures.does told (ready_b c.args.end c.args.bytes.now c.args.slot c.args.fields.now a sound synced only) (newer_b c.args.end c.args.bytes.now c.args.slot c.args.fields.now a sound synced only) in
     makes_step c.args.end c.args.bytes.now c.args.slot c.args.fields.now a sound synced (g.G.Ground.told c.prepare.new.outside) (g.G.Ground.told c.open_gate.new.outside) (records_kept c.args.end c.args.bytes.now c.args.slot c.args.fields.now a sound b synced appends syncs) prepared (g.met.G.Ground.possible _ told) _ (c.open_gate.ensures.does told prepared.ok)
+
+pub returns-in_err-append-clause-only : goal.returns-in_err-append-clause-only
+returns-in_err-append-clause-only g c told = records_only c.args.fields.now.chunk c.args.end (c.args.end + length c.args.bytes.now) _ _ (c.append.ensures.only told)
+
+pub returns-in_err-sync_range-clause-only : goal.returns-in_err-sync_range-clause-only
+returns-in_err-sync_range-clause-only g c told =
+    let size = c.args.fields.now.chunk in
+    let to = c.args.end + length c.args.bytes.now in
+    records_only size c.args.end to _ _ (only_on _ _ _ (IsChunkBetween size c.args.end to) (c.in_ok-append.ensures.only told) (c.sync_range.ensures.does told).only.changes)
+
+pub returns-in_err-prepare-clause-only : goal.returns-in_err-prepare-clause-only
+returns-in_err-prepare-clause-only g c told =
+    let size = c.args.fields.now.chunk in
+    let to = c.args.end + length c.args.bytes.now in
+    let records = records_only size c.args.end to _ _ (only_on _ _ _ (IsChunkBetween size c.args.end to) (c.in_ok-append.ensures.only told) (c.in_ok-sync_range.ensures.does told).only.changes) in
+    control_only size c.args.end to _ _ _ records (c.prepare.ensures.only told)
+
+pub returns-clause-only : goal.returns-clause-only
+returns-clause-only g c told =
+    let size = c.args.fields.now.chunk in
+    let to = c.args.end + length c.args.bytes.now in
+    let records = records_only size c.args.end to _ _ (only_on _ _ _ (IsChunkBetween size c.args.end to) (c.in_ok-append.ensures.only told) (c.in_ok-sync_range.ensures.does told).only.changes) in
+    control_only size c.args.end to _ _ _ (control_only size c.args.end to _ _ _ records (c.in_ok-prepare.ensures.only told)) (c.open_gate.ensures.only told)
