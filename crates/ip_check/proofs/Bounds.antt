@@ -1,14 +1,20 @@
--- The laws.      few_looks      how many looks there are at most.      accepts      the valid pair is accepted
+-- The laws.      few_looks      how many looks there are at most.      looks_all      and at least where the verdict is there.      accepts      the valid pair is accepted
+--     looks_within      where a slice finds the valid pair, the records from the horizon on are no more than were looked at before and what the slice looks at
 use Rattle.std.proofs.Common.{◌≡◌, ℕ, ◌+◌, ◌≤◌, refl, sym, ap, subst, ◌∙◌, length, arith}
-use Rattle.std.specs.Prelude.{Some, count_by}
+use Rattle.std.specs.Prelude.{Ok, Some, None, count_by}
 use Rattle.std.proofs.lemmas.List.{length-map}
 use Rattle.ip_image.specs.Collection.{Pair, IsKept, first_difference}
 use Rattle.ip_image.proofs.PairLaws.{one_valid, same_kept, valid_found}
 use Rattle.ip_keep.specs.Keeping.{IsThrough, starts_between, looked_in}
 use Rattle.ip_keep.specs.Whole.{run_at}
 use Rattle.ip_keep.proofs.LeastSet as least
+use Rattle.ip_spawn.specs.declared.job.Job.{Job}
+use Rattle.ip_spec.specs.TreeAt.{Records}
+use Rattle.ip_image.specs.Collection.{Found}
+use Rattle.ip_check.specs.declared.check.Outcome.{Outcome}
 use Rattle.ip_check.specs.declared.check.Stage.{Stage}
-use Rattle.ip_check.specs.Checking.{Accepts, FewLooks, IsAtStage}
+use Rattle.ip_check.specs.CheckView.{CheckView}
+use Rattle.ip_check.specs.Checking.{Accepts, Advances, FewLooks, IsAtStage, IsCheck, IsChecking, LooksAll, SameCheck, looked_by}
 
 pub few_looks : FewLooks
 few_looks image records found c whole check checking kept is = omega (arith, looks, by c.stage check.stage)
@@ -33,6 +39,22 @@ few_looks image records found c whole check checking kept is = omega (arith, loo
     by Stage.Keeping none = omega (arith, none)
     by (Stage.Comparing place) (through, place_is) = all through
     by (Stage.Through found) through = all through
+
+pub looks_all : LooksAll
+looks_all records found c told check checking is =
+    let through : IsThrough c.keep = subst (IsAtStage c) is check.stage in
+    let seen : c.keep.seen ≡ count_by (starts_between c.job.horizon c.job.end) records =
+    subst (λ (h : ℕ). c.keep.seen ≡ count_by (starts_between h c.job.end) records) check.horizon
+    (subst (λ (e : ℕ). c.keep.seen ≡ count_by (starts_between c.keep.horizon e) records) (through.0 ∙ check.end) checking.keep.seen) in
+    omega (arith, seen)
+
+pub looks_within : (most : ℕ) (records : Records) (found : Found) (old new : CheckView) → IsCheck new → SameCheck old new → Advances most old new (Ok Outcome.Valid) → IsChecking records found new
+    → count_by (starts_between old.job.horizon old.job.end) records ≤ looked_by old + most
+looks_within most records found old new check same advances checking =
+    let all : count_by (starts_between old.job.horizon old.job.end) records ≤ looked_by new =
+    subst (λ (j : Job). count_by (starts_between j.horizon j.end) records ≤ looked_by new) same.job (looks_all records found new None check checking advances.ends) in
+    let high = advances.high in
+    omega (arith, all, high)
 
 pub accepts : Accepts
 accepts records job pair told valid verdict =

@@ -8,7 +8,7 @@
 --     IsChecking records found c      what it has found of these records and of these files
 --     Says records job found result      what an answer says.      Advances most old new result      how far a slice goes
 --     SameCheck old new      it is the check of the same job, in the same space.      IsFixed told job      what is to stay as it is
---     FewLooks      law: how many looks there are at most.      Accepts      law: the valid pair is accepted
+--     FewLooks      law: how many looks there are at most.      LooksAll      law: and at least where the verdict is there.      Accepts      law: the valid pair is accepted
 use Rattle.std.specs.Prelude.{◌≡◌, ◌≢◌, ℕ, ◌+◌, ◌*◌, ◌<◌, ◌≤◌, List, [], length, take, drop, slice_get, count_by, Option, Some, None, Result, Ok, Err}
 use Rattle.ip_ground.specs.declared.names.FileName.TheVariants.{Mapping, Prefix}
 use Rattle.ip_ground.specs.Contents.{Image}
@@ -156,6 +156,11 @@ pub record IsFixed (told : Told) (job : Job) : Type 0 where
 abbrev pub FewLooks : Type 0
 FewLooks = (image : Image) (records : Records) (found : Found) (c : CheckView) → AreRecords image c.keep.space c.keep.horizon records → IsCheck c → IsChecking records found c →
     (kept : Records) → IsKept records c.job.horizon c.job.end kept → looked_by c ≤ count_by (starts_between c.job.horizon c.job.end) records + 2 * length kept
+
+-- where the verdict is there each record from the horizon on was looked at
+abbrev pub LooksAll : Type 0
+LooksAll = (records : Records) (found : Found) (c : CheckView) (told : Option Difference) → IsCheck c → IsChecking records found c → c.stage ≡ Stage.Through told →
+    count_by (starts_between c.job.horizon c.job.end) records ≤ looked_by c
 
 -- where the valid pair was found, nothing differs
 abbrev pub Accepts : Type 0

@@ -1,7 +1,7 @@
 //! The check of what a collection wrote: its files are the valid pair, byte for byte, or the first place at which they differ is told.
 #![tactic(auto)]
 
-ghost use Rattle.ip_check.specs.Checking.{Accepts, FewLooks};
+ghost use Rattle.ip_check.specs.Checking.{Accepts, FewLooks, LooksAll};
 
 mod check;
 mod compare;
@@ -12,8 +12,10 @@ mod prefix;
 pub use check::{Check, Outcome, Stage};
 pub use fault::CheckFault;
 
-/// No check looks at more records than those from the horizon on, and twice those that are kept. The valid pair has no difference.
+/// No check looks at more records than those from the horizon on, and twice those that are kept. One that has come to its end has looked at each
+/// from the horizon on. The valid pair has no difference.
 pub fn checks()
     ensures few_looks { FewLooks }
+    ensures looks_all { LooksAll }
     ensures accepts { Accepts }
 {}

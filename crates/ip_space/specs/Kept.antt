@@ -34,8 +34,8 @@ pub record AreNamed (c : LruCache ℕ Kept) : Type 0 where
   pub few : length c.entries ≤ RECORDS_MAX
 
 pub record IsBounded (kept : List (ℕ × Record)) : Type 0 where
-  pub few : length kept ≤ RECORDS_MAX
-  pub short : (at : ℕ) (r : Record) → Contains kept (at, r) → length (spelling r) ≤ RECORD_BYTES_MAX
+  pub few : length kept ≤ 256
+  pub short : (at : ℕ) (r : Record) → Contains kept (at, r) → length (spelling r) ≤ 65541
 
 abbrev pub GainsNone : List (ℕ × Record) → List (ℕ × Record) → Type 0
 GainsNone old new = (e : ℕ × Record) → Contains new e → Contains old e
