@@ -7,8 +7,9 @@ use Rattle.std.proofs.Common.{◌≡◌, ◌≢◌, ℕ, ◌+◌, ◌<◌, ◌�
 use Rattle.std.specs.Prelude.{Result, Ok, Err, IfErr, IfSome, IsSome, IsSomeAnd, IsTrue, OnOk}
 use Rattle.ip_base.specs.declared.limit.Limit.{Limit}
 use Rattle.ip_base.specs.declared.limit.TheConstants.{OFFSET_MAX}
-use Rattle.ip_ground.specs.Told.{Told}
+use Rattle.ip_ground.specs.Told.{Told, ChangesOnly}
 use Rattle.ip_ground.proofs.Passing.{changes_nothing}
+use Rattle.ip_ground.proofs.Spans.{only_nowhere}
 use Rattle.ip_spec.specs.declared.record.Record.{Record}
 use Rattle.ip_spec.specs.declared.reply.Reply.{Reply}
 use Rattle.ip_spec.specs.Path.{Bytes}
@@ -20,6 +21,7 @@ use Rattle.ip_image.specs.declared.slot.Slot.{Slot}
 use Rattle.ip_image.specs.Appending.{MayName, renamed}
 use Rattle.ip_image.specs.Standing.{IsServedKind}
 use Rattle.ip_image.proofs.Renaming.{spelled_is}
+use Rattle.ip_publish.specs.Publishing.{IsOfStore}
 use Rattle.ip_held.specs.declared.fault.StoreFault.{StoreFault}
 use Rattle.ip_held.specs.declared.held.Held.{Held}
 use Rattle.ip_held.specs.declared.step.Entry.{Entry}
@@ -55,6 +57,7 @@ module _ (tells : Bool) (x : Record) (store : Held) (told : Told) where
     grew = λ tells r held. refused_grew (λ done. true) fault held;
     took = λ tells r held may. refused_took (λ done. true) fault held (renamed r x) ((store.slot.end, x) ∷ []);
     untouched = λ tells is other. changes_nothing told;
+    beside = λ tells. only_nowhere told IsOfStore;
     clear = λ tells has r held clear. clear;
     undamaged = undamaged;
   }
@@ -119,8 +122,8 @@ module _ (tells : Bool) (x : Record) (fits : Fits 1 x) (served : IsServedKind x)
     }
     appends_by q known may (Err fault) taken took = tt
 
-    pub record_taken : (q : Repository) → IsOf store q → MayName q x → now.collection ≡ store.collection → now.unswept ≡ store.unswept → (IsTrue tells → (r : Repository) (held : Holds store old r) → Grew (λ (u : Unit {0}). true) held result now new) → (IsTrue tells → HasAnswer result → (r : Repository) → Holds store old r → KeepsClear store now old new) → AppendsRecord tells x result store now old new
-    record_taken q known may same unswept grew clear = record {
+    pub record_taken : (q : Repository) → IsOf store q → MayName q x → now.collection ≡ store.collection → now.unswept ≡ store.unswept → (IsTrue tells → (r : Repository) (held : Holds store old r) → Grew (λ (u : Unit {0}). true) held result now new) → (IsTrue tells → HasAnswer result → (r : Repository) → Holds store old r → KeepsClear store now old new) → (IsTrue tells → ChangesOnly IsOfStore old new) → AppendsRecord tells x result store now old new
+    record_taken q known may same unswept grew clear beside = record {
       tables = tables_by result taken refused cut;
       same_collection = same;
       unswept = unswept;
@@ -129,6 +132,7 @@ module _ (tells : Bool) (x : Record) (fits : Fits 1 x) (served : IsServedKind x)
       grew = grew;
       took = λ tells r held may. took tells r (renamed r x) more held (step_taken r held.tables may held);
       untouched = λ tells. taken_untouched old new result (still tells) cut;
+      beside = beside;
       clear = clear;
       undamaged = undamaged_by result cut;
     }
@@ -155,6 +159,7 @@ module _ (tells : Bool) (name : Bytes) (number : ℕ) (store : Held) (told : Tol
     grew = λ tells r held. refused_grew (λ done. true) fault held;
     took = λ tells r held retained. refused_took (λ done. true) fault held (with_branch r name number) ((store.slot.end, Record.BranchSet number name) ∷ []);
     untouched = λ tells is other. changes_nothing told;
+    beside = λ tells. only_nowhere told IsOfStore;
     undamaged = undamaged;
   }
 
@@ -201,6 +206,7 @@ module _ (tells : Bool) (name : Bytes) (number : ℕ) (store : Held) (told : Tol
     grew = does.grew;
     took = λ tells r held retained. does.took tells r held (set_may r name number store held.tables retained (room r held.tables));
     untouched = does.untouched;
+    beside = does.beside;
     undamaged = does.undamaged;
   }
 
@@ -220,6 +226,7 @@ module _ (tells : Bool) (name : Bytes) (store : Held) (told : Told) where
     took = λ tells r held. subst (λ (q : Repository). Took (λ removed. removed) held q ((store.slot.end, Record.BranchRemove name) ∷ []) (Ok false) store told) (sym (absent_same r name (none r held.tables)))
         (still_took (λ removed. removed) false refl held ((store.slot.end, Record.BranchRemove name) ∷ []));
     untouched = λ tells is other. absurd (cc is);
+    beside = λ tells. only_nowhere told IsOfStore;
     undamaged = tt;
   }
 
@@ -239,6 +246,7 @@ module _ (tells : Bool) (name : Bytes) (store : Held) (told : Told) where
       grew = λ tells r held. refused_grew (λ removed. removed) StoreFault.Memory held;
       took = λ tells r held. refused_took (λ removed. removed) StoreFault.Memory held (without_branch r name) ((store.slot.end, Record.BranchRemove name) ∷ []);
       untouched = λ tells is other. changes_nothing told;
+      beside = λ tells. only_nowhere told IsOfStore;
       undamaged = tt;
     }
 
@@ -254,6 +262,7 @@ module _ (tells : Bool) (name : Bytes) (store : Held) (told : Told) where
       grew = λ tells r held. fault_grew (λ done. true) (λ removed. removed) fault held now (does.grew tells r held);
       took = λ tells r held. fault_took (λ done. true) (λ removed. removed) fault held (without_branch r name) ((store.slot.end, Record.BranchRemove name) ∷ []) now (does.took tells r held tt);
       untouched = λ tells is other. does.untouched tells refl (λ e. other (err_of fault StoreFault.Ground e));
+      beside = does.beside;
       undamaged = undamaged_of fault does.undamaged;
     }
       where
@@ -273,5 +282,6 @@ module _ (tells : Bool) (name : Bytes) (store : Held) (told : Told) where
       grew = λ tells r held. value_grew (λ removed. removed) true refl held now (does.grew tells r held);
       took = λ tells r held. value_took (λ removed. removed) true refl held (without_branch r name) ((store.slot.end, Record.BranchRemove name) ∷ []) now (does.took tells r held tt);
       untouched = λ tells is other. absurd (cc is);
+      beside = does.beside;
       undamaged = tt;
     }

@@ -5,10 +5,11 @@ use Rattle.std.proofs.Common.{◌≡◌, ℕ, ◌^◌, ◌<◌, ◌≤◌, Bool,
 use Rattle.std.specs.Prelude.{Result, Ok, Err, IfSome, IsErrOf, IsTrue}
 use Rattle.ip_base.specs.declared.info.Info.{Info}
 use Rattle.ip_base.specs.declared.limit.Limit.TheVariants as Limit
-use Rattle.ip_ground.specs.Told.{Told, NoFile}
+use Rattle.ip_ground.specs.Told.{Told, NoFile, ChangesOnly}
 use Rattle.ip_ground.proofs.Spans.{only_on}
 use Rattle.ip_image.specs.declared.slot.Slot.{Slot}
 use Rattle.ip_image.proofs.OneRepository.{all_records}
+use Rattle.ip_publish.specs.Publishing.{IsOfStore}
 use Rattle.ip_spec.specs.Path.{Bytes}
 use Rattle.ip_spec.specs.Record.{Hash}
 use Rattle.ip_spec.specs.Repository.{Repository, next}
@@ -41,6 +42,7 @@ use Rattle.ip_held.proofs.Untouched.{taken_untouched}
 use Rattle.ip_appends.specs.declared.committing.Plan.{Plan}
 use Rattle.ip_appends.specs.Commits.{CommitsWork, IsNext, IsPlan, end_of, records_of, repository_after}
 use Rattle.ip_appends.proofs.AfterCommit.{IsRead, after_is, after_parents, after_tables, answers_made, answers_refused, commit_step, entering, no_info, saved_tree, some_commit, stored_tree, work_after}
+use Rattle.ip_appends.proofs.Beside.{beside_behind, beside_looked}
 use Rattle.ip_appends.proofs.BehindPlan.{at_behind, cut_limits, cut_memory, cut_undamaged, first_same, next_behind, plan_behind, records_behind, undamaged_as}
 
 same_numbers : (store mid : Held) → SameTables store mid → KeepsNumbers store mid
@@ -74,6 +76,7 @@ module _ (tells : Bool) (branch : Bytes) (info : Info) (store mid : Held) (work 
     causes = cause;
     undamaged = λ told r v at. undamaged_as Plan Hash fault (undamaged told r v at);
     untouched = λ told is other. (looks told).reads.only;
+    beside = λ told. beside_looked a b (looks told).reads.only;
     wanted = λ r of e. wanted r of (err_of fault StoreFault.Memory e);
     clear = λ told has r held. clear_mid told;
     alone = λ none. undamaged_as Plan Hash fault (alone none);
@@ -85,7 +88,7 @@ module _ (tells : Bool) (branch : Bytes) (info : Info) (store mid : Held) (work 
       (there : (r : Repository) → IsOf store r → IsThere r work.least) (passed : (r : Repository) → IsOf store r → first_refusal r (phase_of store.collection) work.least work.parents branch ≡ Ok tt) (now : Held) (c : Told) (res : Result (Unit {0}) StoreFault) (numbers : KeepsNumbers mid now) (collection : now.collection ≡ mid.collection) (unswept : now.unswept ≡ mid.unswept)
       (grows : IsTrue tells → (r : Repository) (held : Holds mid b r) → Grew (λ (done : Unit {0}). true) held res now c)
       (takes : IsTrue tells → (r after : Repository) (more : Records) (held : Holds mid b r) → IsStep held after more plan.batch.bytes.items plan.step → Took (λ (done : Unit {0}). true) held after more res now c)
-      (clears : IsTrue tells → HasAnswer res → (r : Repository) → Holds mid b r → KeepsClear mid now b c) where
+      (clears : IsTrue tells → HasAnswer res → (r : Repository) → Holds mid b r → KeepsClear mid now b c) (besides : IsTrue tells → ChangesOnly IsOfStore b c) where
     clear_now : IsTrue tells → HasAnswer res → (r : Repository) → Holds store a r → KeepsClear store now a c
     clear_now told has r held clear = clears told has r ((looks told).holds r held) (clear_mid told clear)
 
@@ -153,6 +156,7 @@ module _ (tells : Bool) (branch : Bytes) (info : Info) (store mid : Held) (work 
       causes = cut_cause tells a store.space (Err fault) cut;
       undamaged = λ told r v at. cut_undamaged (Err fault) cut;
       untouched = λ told is other. only_on a b c NoFile (looks told).reads.only (taken_untouched b c {A = Unit {0}} (Err fault) (λ e. (memory (cc e)).1) cut refl (λ e. other (err_of fault StoreFault.Ground e)));
+      beside = λ told. beside_behind a b c (looks told).reads.only (besides told);
       wanted = λ r of e. passed r of;
       clear = λ told has. clear_now told (subst HasAnswer (sym is) (with_answer (Unit {0}) Hash fault has));
       alone = λ none. cut_undamaged (Err fault) cut;
@@ -220,6 +224,7 @@ module _ (tells : Bool) (branch : Bytes) (info : Info) (store mid : Held) (work 
         causes = tt;
         undamaged = λ told r v at. tt;
         untouched = λ told is other. absurd (cc is);
+        beside = λ told. beside_behind a b c (looks told).reads.only (besides told);
         wanted = λ r of e. absurd (cc (e));
         clear = λ told has. clear_now told (subst HasAnswer (sym is) tt);
         alone = λ none. tt;

@@ -6,6 +6,7 @@ use Rattle.std.specs.Prelude.{Result, Ok, Err, is_some, not, ◌&&◌, ◌==◌,
 use Rattle.ip_base.specs.declared.limit.Limit.{Limit}
 use Rattle.ip_ground.specs.Told.{Told}
 use Rattle.ip_ground.proofs.Passing.{changes_nothing}
+use Rattle.ip_ground.proofs.Spans.{only_nowhere}
 use Rattle.ip_spec.specs.declared.record.Record.{Record}
 use Rattle.ip_spec.specs.declared.reply.Reply.{Reply}
 use Rattle.ip_spec.specs.History.{ParentsFirst, is_ancestor}
@@ -18,6 +19,7 @@ use Rattle.ip_spec.specs.Record.{Hash, spelling}
 use Rattle.ip_spec.specs.Repository.{Repository, name_at}
 use Rattle.ip_spec.specs.Step.{refuse_if, branches_limit, with_branch}
 use Rattle.ip_image.specs.Appending.{MayName}
+use Rattle.ip_publish.specs.Publishing.{IsOfStore}
 use Rattle.ip_held.specs.declared.fault.StoreFault.{StoreFault}
 use Rattle.ip_appends.specs.declared.merging.Merge.{Merge}
 use Rattle.ip_held.specs.declared.held.Held.{Held}
@@ -93,6 +95,7 @@ module _ (branch : Bytes) (number : ℕ) (store : Held) where
     appends = did.appends;
     grew = λ told r held. value_grew moves (Merge.Forward name) refl held now (did.grew told r held);
     untouched = λ told is other. absurd (cc is);
+    beside = did.beside;
     took = λ told r held is. value_took moves (Merge.Forward name) refl held (with_branch r branch number) ((store.slot.end, one) ∷ []) now (did.took told r held (forward_may r held.tables is));
     clear = λ told has. did.clear told tt;
     undamaged = tt;
@@ -106,6 +109,7 @@ module _ (branch : Bytes) (number : ℕ) (store : Held) where
     appends = λ told. tt;
     grew = λ told r held. fault_grew (λ (u : Unit {0}). true) moves fault held now (did.grew told r held);
     untouched = λ told is other. did.untouched told refl (λ e. other (err_of fault StoreFault.Ground e));
+    beside = did.beside;
     took = λ told r held is. fault_took (λ (u : Unit {0}). true) moves fault held (with_branch r branch number) ((store.slot.end, one) ∷ []) now (did.took told r held (forward_may r held.tables is));
     clear = λ told has. did.clear told (with_answer (Unit {0}) Merge fault has);
     undamaged = undamaged fault did.undamaged;
@@ -121,6 +125,7 @@ module _ (branch : Bytes) (number : ℕ) (store : Held) where
     appends = λ told. tt;
     grew = λ told r held. refused_grew moves StoreFault.Memory held;
     untouched = λ told is other. changes_nothing a;
+    beside = λ told. only_nowhere a IsOfStore;
     took = λ told r held is. refused_took moves StoreFault.Memory held (with_branch r branch number) ((store.slot.end, one) ∷ []);
     clear = λ told has r held clear. clear;
     undamaged = tt;

@@ -70,7 +70,7 @@ merged_of (Err fault) = Err fault
 
 module _ {store : Held} {a : Told} {r : Repository} (held : Holds store a r) (now : Held) (c : Told) where
   pub took_merged : (result : Result Hash StoreFault) (after : Repository) (more : Records) → Took (λ (name : Hash). true) held after more result now c → Took moves held after more (merged_of result) now c
-  took_merged (Ok name) after more took = record { changes = with_value name (Merge.Merged name) r after now a c took.changes; list = took.list; clear = took.clear; fronts = took.fronts }
+  took_merged (Ok name) after more took = record { changes = with_value name (Merge.Merged name) r after now a c took.changes; list = took.list; clear = took.clear; fronts = took.fronts; slots = took.slots; writes = took.writes }
   took_merged (Err fault) after more took = fault_took (λ (name : Hash). true) moves fault held after more now took
 
   pub grew_merged : (result : Result Hash StoreFault) → Grew (λ (name : Hash). true) held result now c → Grew moves held (merged_of result) now c

@@ -36,6 +36,7 @@ use Rattle.ip_appends.proofs.JoinAnswers.{merged_of, took_merged, grew_merged, a
 use Rattle.ip_appends.proofs.JoinedCalls.{causes_behind}
 use Rattle.ip_appends.proofs.JoinedTrees.{join_outcome, join_good, join_view, join_lawful, join_parents, join_there, goes_on_from}
 use Rattle.ip_appends.proofs.BehindPlan.{first_same}
+use Rattle.ip_appends.proofs.Beside.{beside_behind}
 use Rattle.ip_appends.proofs.FirstTree.{first_left}
 use Rattle.ip_held.proofs.Clearing.{looked_clear}
 use Rattle.ip_held.proofs.Phases.{retained_parents, stays_least}
@@ -162,5 +163,6 @@ module _ (tells : Bool) (rule : Rule) (branch : Bytes) (info : Info) (sides : Si
         (undamaged_merged result (commits.undamaged told r view here));
     causes = causes_merged result (causes_behind looked result commits.causes);
     untouched = λ told is other. only_on a b c NoFile (looks told).reads.only (let both = refused_merged result is other in commits.untouched told both.0 both.1);
+    beside = λ told. beside_behind a b c (looks told).reads.only (commits.beside told);
     clear = λ told has r held clear. commits.clear told (has_merged result has) r ((looks told).holds r held) (looked_clear store mid a b same.slot same.unswept (looks told).reads.only clear);
   }

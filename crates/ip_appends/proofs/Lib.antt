@@ -1,5 +1,6 @@
 pub mod AfterCommit
 pub mod BehindPlan
+pub mod Beside
 pub mod BranchSteps
 pub mod BranchTurns
 pub mod CommitExits

@@ -35,6 +35,7 @@ use Rattle.ip_held.specs.Answers.{fault_reply, met_by, met_nothing, met_of}
 use Rattle.ip_appends.specs.Merging.{merge_reply, IsTurn, GoesOnFrom, AnswersMerge, MergeAppends, AppendsMerge, LimitsMerge, IsUnmoved, IsForward, IsForwarded, IsJoin, IsOutcome, IsJoined, Forwards, MergesInto, MergesWhere, StoreLooks, moves}
 use Rattle.ip_held.specs.Held.{IsOf, Holds, SameTables, image_records}
 use Rattle.ip_held.specs.Trees.{OnlyLooks}
+use Rattle.ip_appends.proofs.Beside.{beside_looked}
 use Rattle.ip_appends.proofs.JoinedTrees.{within_long, within_wide}
 use Rattle.ip_appends.proofs.MergeTurns.{IsQuiet, some_turn, turn_memory, turn_forward, forward_space, forward_sequence, turn_conflict, refused_tree}
 use Rattle.ip_held.proofs.Causing.{undamaged_causes}
@@ -61,6 +62,7 @@ module _ (tells : Bool) (rule : Rule) (number : ℕ) (branch : Bytes) (info : In
     merges = λ told decides r held here. all.merges told decides r held (is r held.tables here);
     causes = all.causes;
     untouched = all.untouched;
+    beside = all.beside;
     clear = all.clear;
     wanted = wanted;
   }
@@ -122,6 +124,7 @@ module _ (tells : Bool) (rule : Rule) (number : ℕ) (branch : Bytes) (info : In
           };
       causes = tt;
       untouched = λ told is other. absurd (cc is);
+      beside = λ told. beside_looked a b (looks told).reads.only;
       clear = λ told has r held. clear_mid told;
     }
 
@@ -159,6 +162,7 @@ module _ (tells : Bool) (rule : Rule) (number : ℕ) (branch : Bytes) (info : In
           };
       causes = cause;
       untouched = λ told is other. (looks told).reads.only;
+      beside = λ told. beside_looked a b (looks told).reads.only;
       clear = λ told has r held. clear_mid told;
     }
       where
@@ -298,5 +302,6 @@ forward_into tells rule number branch info result store now a b forwards = recor
       };
   causes = undamaged_causes tells a store.space result forwards.undamaged;
   untouched = forwards.untouched;
+  beside = forwards.beside;
   clear = forwards.clear;
 }

@@ -32,6 +32,7 @@ use Rattle.ip_held.specs.declared.work.Work.{Work}
 use Rattle.ip_appends.specs.declared.committing.Plan.{Plan}
 use Rattle.ip_held.specs.declared.fault.StoreFault.{StoreFault}
 use Rattle.ip_held.specs.declared.step.Entry.{Entry}
+use Rattle.ip_publish.specs.Publishing.{IsOfStore}
 use Rattle.ip_held.specs.Causes.{IsStoreCause}
 use Rattle.ip_held.specs.Changes.{Appends, HasAnswer, IsUndamaged, KeepsNumbers, LimitsSpace, next_slot}
 use Rattle.ip_held.specs.Clear.{KeepsClear}
@@ -115,6 +116,8 @@ pub record CommitsWork (tells : Bool) (branch : Bytes) (info : Info) (result : R
   pub undamaged : IsTrue tells → (r : Repository) (v : View) → IsAt old store r work v → IsUndamaged result
   -- no answer but a commit and a fault of the ground comes behind a write
   pub untouched : IsTrue tells → IsErr result → ¬ IsErrOf result StoreFault.Ground → ChangesOnly NoFile old new
+  -- no file but the store's is touched, whatever the files are
+  pub beside : IsTrue tells → ChangesOnly IsOfStore old new
   -- Memory is asked for only where none of the refusals that come before the name is met.
   pub wanted : (r : Repository) → IsOf store r → IsErrOf result StoreFault.Memory → first_refusal r (phase_of store.collection) work.least work.parents branch ≡ Ok tt
   -- whatever the work's tree is

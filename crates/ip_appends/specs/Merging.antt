@@ -45,6 +45,7 @@ use Rattle.ip_tree.specs.declared.tree.Tree as lazy
 use Rattle.ip_three.specs.Answered.{MergedView}
 use Rattle.ip_three.specs.declared.merge.ThreeFault.{ThreeFault}
 use Rattle.ip_three.specs.declared.merge.ThreeFault.TheVariants as three
+use Rattle.ip_publish.specs.Publishing.{IsOfStore}
 use Rattle.ip_held.specs.Causes.{IsStoreCause}
 use Rattle.ip_held.specs.Changes.{Appends, HasAnswer, IsUndamaged, LimitsSpace}
 use Rattle.ip_held.specs.Clear.{KeepsClear}
@@ -224,6 +225,8 @@ pub record Forwards (tells : Bool) (number : ℕ) (branch : Bytes) (result : Res
   pub grew : IsTrue tells → (r : Repository) (held : Holds store old r) → Grew moves held result now new
   pub took : IsTrue tells → (r : Repository) (held : Holds store old r) → IsForward r branch number → Took moves held (with_branch r branch number) ((store.slot.end, Record.BranchSet number branch) ∷ []) result now new
   pub untouched : IsTrue tells → IsErr result → ¬ IsErrOf result StoreFault.Ground → ChangesOnly NoFile old new
+  -- no file but the store's is touched, whatever the files are
+  pub beside : IsTrue tells → ChangesOnly IsOfStore old new
   pub clear : IsTrue tells → HasAnswer result → (r : Repository) → Holds store old r → KeepsClear store now old new
   pub undamaged : IsUndamaged result
 
@@ -252,6 +255,8 @@ pub record MergesWhere (Is : Repository → Type 0) (tells : Bool) (rule : Rule)
   pub causes : IfErr result (IsStoreCause tells old store.space)
   -- no fault but one of the ground comes behind a write
   pub untouched : IsTrue tells → IsErr result → ¬ IsErrOf result StoreFault.Ground → ChangesOnly NoFile old new
+  -- no file but the store's is touched, whatever the files are
+  pub beside : IsTrue tells → ChangesOnly IsOfStore old new
   -- whatever the rules are
   pub clear : IsTrue tells → HasAnswer result → (r : Repository) → Holds store old r → KeepsClear store now old new
 
@@ -265,6 +270,8 @@ pub record MergesInto (tells : Bool) (rule : Rule) (number : ℕ) (branch : Byte
   pub causes : IfErr result (IsStoreCause tells old store.space)
   -- no fault but one of the ground comes behind a write
   pub untouched : IsTrue tells → IsErr result → ¬ IsErrOf result StoreFault.Ground → ChangesOnly NoFile old new
+  -- no file but the store's is touched, whatever the files are
+  pub beside : IsTrue tells → ChangesOnly IsOfStore old new
   -- whatever the rules are
   pub clear : IsTrue tells → HasAnswer result → (r : Repository) → Holds store old r → KeepsClear store now old new
   -- Memory is asked for only where there is such a branch.

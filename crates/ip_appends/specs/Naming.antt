@@ -17,6 +17,7 @@ use Rattle.ip_spec.specs.Record.{spelling}
 use Rattle.ip_spec.specs.Repository.{Repository, head, is_retained}
 use Rattle.ip_spec.specs.Step.{resolve, room_for_branch, with_branch}
 use Rattle.ip_image.specs.Appending.{MayName, renamed}
+use Rattle.ip_publish.specs.Publishing.{IsOfStore}
 use Rattle.ip_held.specs.declared.fault.StoreFault.{StoreFault}
 use Rattle.ip_held.specs.declared.held.Held.{Held}
 use Rattle.ip_spec.specs.Machine.{Phase, Work}
@@ -77,6 +78,8 @@ pub record AppendsRecord (tells : Bool) (x : Record) (result : Result (Unit {0})
   pub took : IsTrue tells → (r : Repository) (held : Holds store old r) → MayName r x → Took (λ done. true) held (renamed r x) ((store.slot.end, x) ∷ []) result now new
   -- no fault but one of the ground comes behind a write
   pub untouched : IsTrue tells → IsErr result → ¬ IsErrOf result StoreFault.Ground → ChangesOnly NoFile old new
+  -- no file but the store's is touched, whatever the files are
+  pub beside : IsTrue tells → ChangesOnly IsOfStore old new
   -- whatever the record does to the branches
   pub clear : IsTrue tells → HasAnswer result → (r : Repository) → Holds store old r → KeepsClear store now old new
   pub undamaged : IsUndamaged result
@@ -95,6 +98,8 @@ pub record SetsBranch (tells : Bool) (name : Bytes) (number : ℕ) (result : Res
   pub took : IsTrue tells → (r : Repository) (held : Holds store old r) → IsTrue (is_retained r number) → Took (λ done. true) held (with_branch r name number) ((store.slot.end, Record.BranchSet number name) ∷ []) result now new
   -- no fault but one of the ground comes behind a write
   pub untouched : IsTrue tells → IsErr result → ¬ IsErrOf result StoreFault.Ground → ChangesOnly NoFile old new
+  -- no file but the store's is touched, whatever the files are
+  pub beside : IsTrue tells → ChangesOnly IsOfStore old new
   pub undamaged : IsUndamaged result
 
 pub record RemovesBranch (tells : Bool) (name : Bytes) (result : Result Bool StoreFault) (store now : Held) (old new : Told) : Type 0 where
@@ -111,4 +116,6 @@ pub record RemovesBranch (tells : Bool) (name : Bytes) (result : Result Bool Sto
   pub took : IsTrue tells → (r : Repository) (held : Holds store old r) → Took (λ removed. removed) held (without_branch r name) ((store.slot.end, Record.BranchRemove name) ∷ []) result now new
   -- no fault but one of the ground comes behind a write
   pub untouched : IsTrue tells → IsErr result → ¬ IsErrOf result StoreFault.Ground → ChangesOnly NoFile old new
+  -- no file but the store's is touched, whatever the files are
+  pub beside : IsTrue tells → ChangesOnly IsOfStore old new
   pub undamaged : IsUndamaged result

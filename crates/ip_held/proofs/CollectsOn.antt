@@ -57,12 +57,12 @@ collects_more a b these only apart s t records more r q c horizon above first he
 
 -- ---- a durable step
 
-pub unwritten : (size end : ℕ) (file : FileName) (n : ℕ) → IsOfAttempt n file → ¬ IsWritten size end file
-unwritten size end Control n of written = of
-unwritten size end (Chunk number) n of written = of
-unwritten size end (Prefix number) n of written = elim written [ inl control ↦ cc (control) | inr chunk ↦ cc (chunk.2) ]
-unwritten size end (Mapping number) n of written = elim written [ inl control ↦ cc (control) | inr chunk ↦ cc (chunk.2) ]
-unwritten size end (Done number) n of written = elim written [ inl control ↦ cc (control) | inr chunk ↦ cc (chunk.2) ]
+pub unwritten : (size from to : ℕ) (file : FileName) (n : ℕ) → IsOfAttempt n file → ¬ IsWritten size from to file
+unwritten size from to Control n of written = of
+unwritten size from to (Chunk number) n of written = of
+unwritten size from to (Prefix number) n of written = elim written [ inl control ↦ cc (control) | inr chunk ↦ cc (chunk.2) ]
+unwritten size from to (Mapping number) n of written = elim written [ inl control ↦ cc (control) | inr chunk ↦ cc (chunk.2) ]
+unwritten size from to (Done number) n of written = elim written [ inl control ↦ cc (control) | inr chunk ↦ cc (chunk.2) ]
 
 lie_above : (low from : ℕ) (xs : Records) (to : ℕ) → low ≤ from → AreEndToEnd from xs to → AllByRecursion (λ (x : ℕ × Record). low ≤ x.0) xs
 lie_above low from [] to le lie = tt

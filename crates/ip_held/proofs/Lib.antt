@@ -25,6 +25,7 @@ pub mod Remaining
 pub mod Renamed
 pub mod Room
 pub mod RootedViews
+pub mod SlotLaws
 pub mod SpelledTrees
 pub mod Spelling
 pub mod StepFronts

@@ -18,7 +18,7 @@ use Rattle.ip_held.specs.Placed.{IsSpaceOf}
 use Rattle.ip_held.specs.Step.{HasRoom, slot_behind}
 
 pub next_room : (s : Slot) (length commits : ℕ) → IsSlot s → s.end + length ≤ OFFSET_MAX → s.sequence < OFFSET_MAX → commits ≤ length → HasRoom s s.next_attempt length commits
-next_room s length commits is small low few = record { drawn = omega arith; attempts = is.next_attempt; ends = small; sequence = low; few = few }
+next_room s length commits is small low few = record { drawn = omega arith; one = omega arith; attempts = is.next_attempt; ends = small; sequence = low; few = few }
 
 module _ (s : Slot) (u : Unswept) (attempt length commits : ℕ) where
   pub next_is : IsSlot s → IsUnswept s u → HasRoom s attempt length commits → IsSlot (slot_behind s u attempt length commits)

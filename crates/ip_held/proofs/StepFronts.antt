@@ -1,7 +1,7 @@
 -- What a crash leaves of a call that appends records, by the core of collections.
 --     comes_still      an image with the bytes that were there comes of the core by a stop.      comes_on      one with records behind them, by an append and a stop
 --     leaves_none      no moment has passed.      leaves_looked      no file was changed.      leaves_behind      a call behind one that only looked
---     leaves_step      a durable step
+--     leaves_step      a durable step.      slots_step      which slot is live behind it
 use Rattle.std.proofs.Common.{◌≡◌, ◌⊎◌, inl, inr, ℕ, ◌-◌, ◌≤◌, List, [], ◌++◌, Option, Some, None, length, refl, sym, ◌∙◌, ap, subst, arith}
 use Rattle.std.proofs.lemmas.Bool.{cases_lt}
 use Rattle.std.proofs.lemmas.List.{map-append}
@@ -34,6 +34,7 @@ use Rattle.ip_held.specs.Collecting.{Collects}
 use Rattle.ip_held.specs.Fronts.{ComesOf, LeavesFront, IsCoreIn}
 use Rattle.ip_publish.specs.Publishing.{MakesStep}
 use Rattle.ip_held.specs.Held.{IsOf, Holds, SameTables}
+use Rattle.ip_held.specs.Slots.{KeepsSlots}
 use Rattle.ip_held.specs.Tie.{CorePhaseOf, IsCoreOf, appending}
 use Rattle.ip_held.proofs.BatchRests.{end_reached, follow_on}
 use Rattle.ip_held.specs.Step.{RestsBy}
@@ -45,6 +46,7 @@ use Rattle.ip_held.proofs.LookedUp.{space_between}
 use Rattle.ip_held.proofs.NextSlot.{next_generation, next_is}
 use Rattle.ip_held.specs.Step.{slot_behind, HasRoom}
 use Rattle.ip_held.proofs.Recovering.{held_has, in_image}
+use Rattle.ip_held.proofs.SlotLaws.{slots_stepped}
 use Rattle.ip_held.proofs.Stepping.{images_at}
 use Rattle.ip_held.specs.StandsBy.{StandsBy}
 
@@ -143,6 +145,14 @@ module _ (store : Held) (r : Repository) (a : Told) (held : Holds store a r) (b 
 module _ (r after : Repository) (store : Held) (attempt commits : ℕ) (bytes : List ℕ) (of : IsOf store r) (room : HasRoom store.slot attempt (length bytes) commits) (a : Told) (held : Holds store a r) where
   abbrev next : Slot
   next = slot_behind store.slot store.unswept attempt (length bytes) commits
+
+  pub slots_step : (b : Told) (res : Result (Unit {0}) GroundFault) → MakesStep store.slot.end bytes (1 - store.index) next res a b → NothingPending a → KeepsSlots a b
+  slots_step b res step pending =
+      slots_stepped a b store.slot next (held_has store r a held) (record { sequence = refl; drawn = room.drawn; one = room.one })
+      (λ t late le image possible. elim (images_at r after store attempt commits bytes of room a held b res step pending t late le image possible) [
+        | inl old ↦ inl (in_image store.index store.slot image of.slot old.0)
+        | inr new ↦ inr (in_image (1 - store.index) next image (next_is store.slot store.unswept attempt (length bytes) commits of.slot of.unswept room) new.0)
+      ])
 
   module _ (stands_new : (image : Image) → HasLive next image → AddsBytes store.slot bytes a.held image → StandsFor image after) (more : Records) (fit : AreNewest more) (lie : AreEndToEnd store.slot.end more next.end) (spelled : bytes ≡ bytes_of_records more)
       (rests : RestsBy held more store.collection) where

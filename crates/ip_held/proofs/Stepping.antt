@@ -56,6 +56,7 @@ use Rattle.ip_held.proofs.Going.{going_to, collects_to, collects_still}
 use Rattle.ip_held.proofs.Listed.{newest, same_rows, more_records, space_stays, pair_stays, same_list, same_records, holds_on, readable_of, current_behind}
 use Rattle.ip_held.specs.Step.{AreNewest}
 use Rattle.ip_held.proofs.NextSlot.{next_is, next_generation}
+use Rattle.ip_held.proofs.SlotLaws.{written_store}
 use Rattle.ip_held.specs.Step.{slot_behind, HasRoom}
 use Rattle.ip_held.proofs.Phases.{phase_to}
 use Rattle.ip_held.proofs.Reading.{own}
@@ -266,7 +267,7 @@ module _ (r after : Repository) (store : Held) (attempt commits : ℕ) (bytes : 
 
   -- no file of an attempt is written
   unwritten : (b : Told) (res : Result (Unit {0}) GroundFault) → Step b res → (file : FileName) → ¬ IsOfStore file → KeepsFile a b file
-  unwritten b res step file other = step.only.others file (λ written. other (elim written [ inl control ↦ inl control | inr chunk ↦ inr (store.slot.chunk, chunk.0, chunk.2) ]))
+  unwritten b res step file other = step.writes.only.others file (λ written. other (written_store store.slot.chunk store.slot.end (store.slot.end + length bytes) file written))
 
   mapping_stays : (b : Told) (res : Result (Unit {0}) GroundFault) → Step b res → KeepsFile a b (Mapping store.slot.live)
   mapping_stays b res step = unwritten b res step (Mapping store.slot.live) (no_mapping store.slot.live)
@@ -277,13 +278,13 @@ module _ (r after : Repository) (store : Held) (attempt commits : ℕ) (bytes : 
   -- so the live pair is left as it was
   pair_at : (b : Told) (res : Result (Unit {0}) GroundFault) → Step b res → NothingPending a → (t : ℕ) → a.moment < t → t ≤ b.moment → LeavesPairOf (crash_at b t) store.slot a.held
   pair_at b res step pending t late le live =
-      pair_left a b store.slot.live (at_most a b (Mapping store.slot.live) (mapping_stays b res step)) (at_most a b (Prefix store.slot.live) (prefix_stays b res step)) (step.only.lending store.slot.live) (pending_pair pending live) t late le
+      pair_left a b store.slot.live (at_most a b (Mapping store.slot.live) (mapping_stays b res step)) (at_most a b (Prefix store.slot.live) (prefix_stays b res step)) (step.writes.only.lending store.slot.live) (pending_pair pending live) t late le
 
   pair_here : (b : Told) (res : Result (Unit {0}) GroundFault) → Step b res → SamePair store.slot a.held b.held
   pair_here b res step live = ((mapping_stays b res step).held (held.pair live).mapping, (prefix_stays b res step).held (held.pair live).prefix)
 
   drawn_at : (b : Told) (res : Result (Unit {0}) GroundFault) → Step b res → NothingPending a → (t : ℕ) → a.moment < t → t ≤ b.moment → (n : ℕ) → b.lending_at t n ≢ custody.own → n < store.slot.next_attempt
-  drawn_at b res step pending t late le n some = pending.drawn store.slot old_has n (λ none. some (step.only.lending n t late le ∙ none))
+  drawn_at b res step pending t late le n some = pending.drawn store.slot old_has n (λ none. some (step.writes.only.lending n t late le ∙ none))
 
   -- each image has the old slot live and the same bytes, or the next slot and these behind them
   pub images_at : (b : Told) (res : Result (Unit {0}) GroundFault) → Step b res → NothingPending a → (t : ℕ) → a.moment < t → t ≤ b.moment → (image : Image) → Possible (b.may_leave t) image
@@ -303,7 +304,7 @@ module _ (r after : Repository) (store : Held) (attempt commits : ℕ) (bytes : 
   pub flushed_now : (b : Told) (res : Result (Unit {0}) GroundFault) → Step b res → NothingPending a → AllFlushed (crash_now b)
   flushed_now b res step pending = elim (cases_lt a.moment b.moment) [
     | inl later ↦ flushed_at b res step pending b.moment later (omega arith)
-    | inr still ↦ none_since a b step.only.goes still (recovers_now store r a held pending).flushed
+    | inr still ↦ none_since a b step.writes.only.goes still (recovers_now store r a held pending).flushed
   ]
 
   pub keeps_space : (b : Told) (res : Result (Unit {0}) GroundFault) → Step b res → NothingPending a → (u : Slot) → HasLive u a.held → KeepsSpace u a b
@@ -311,7 +312,7 @@ module _ (r after : Repository) (store : Held) (attempt commits : ℕ) (bytes : 
       subst (λ (v : Slot). SameSpace v a.held image) (one_slot store.slot u a.held old_has has) (elim (images_at b res step pending t late le image possible) [ inl old ↦ old.1 | inr new ↦ new.1.same ])
 
   pub only_changes : (b : Told) (res : Result (Unit {0}) GroundFault) → Step b res → ChangesOnly (MayChange a.held) a b
-  only_changes b res step = only_more a b (IsWritten store.slot.chunk store.slot.end) (MayChange a.held) (λ file written. elim written [ inl control ↦ inl control | inr chunk ↦ inr (store.slot, old_has, chunk) ]) step.only
+  only_changes b res step = only_more a b (IsWritten store.slot.chunk store.slot.end (store.slot.end + length bytes)) (MayChange a.held) (λ file written. elim written [ inl control ↦ inl control | inr chunk ↦ inr (store.slot, old_has, (chunk.0, chunk.1.0, chunk.2)) ]) step.writes.only
 
   module _ (b : Told) (step : Step b (Ok tt)) where
     has_now : HasLive next b.held
@@ -375,8 +376,8 @@ module _ (r after : Repository) (store : Held) (attempt commits : ℕ) (bytes : 
           pending_now pending = pending_of next b (has_now b step)
               (chunks_left store.slot.chunk store.slot.horizon next.end (front ++ bytes) b b.held whole_end (step.front (front_leaves pending)) step.held.1)
               (pair_alike (crash_now b) store.slot a.held b.held (pair_here b (Ok tt) step) (λ live. pair_now a b store.slot.live (at_most a b (Mapping store.slot.live) (mapping_stays b (Ok tt) step)) (at_most a b (Prefix store.slot.live) (prefix_stays b (Ok tt) step))
-              (step.only.lending store.slot.live) (pending_pair pending live) step.only.goes))
-              (λ n some. (let was = pending.drawn store.slot old_has n (λ none. some (lending_now a b step.only.goes n (step.only.lending n) ∙ none)) in let more = room.drawn in omega (arith, was, more)))
+              (step.writes.only.lending store.slot.live) (pending_pair pending live) step.writes.only.goes))
+              (λ n some. (let was = pending.drawn store.slot old_has n (λ none. some (lending_now a b step.writes.only.goes n (step.writes.only.lending n) ∙ none)) in let more = room.drawn in omega (arith, was, more)))
 
           pub changed : {A : Type 0} (x : A) → Changes r after (Ok x) store' a b
           changed x = record {

@@ -5,21 +5,22 @@
 --     behind_took, behind_grew      a call behind one that only looked
 --     entered_keeps      what a step leaves of the tables.      entered_is      what the store holds behind it
 --     may_take      what the durable step asks.      taken_clear, cut_clear, taken_took, cut_took, taken_grew, cut_grew      what taking a step does, and what a fault of the ground leaves
-use Rattle.std.proofs.Common.{◌≡◌, ℕ, ◌-◌, Bool, true, false, ◌++◌, length, Option, Some, refl, sym, ◌∙◌, ap, subst, arith}
+use Rattle.std.proofs.Common.{◌≡◌, ℕ, ◌+◌, ◌-◌, Bool, true, false, ◌++◌, length, Option, Some, refl, sym, ◌∙◌, ap, subst, arith}
 use Rattle.std.specs.Prelude.{IfSome, Result, Ok, Err}
 use Rattle.ip_ground.specs.declared.names.GroundFault.{GroundFault}
 use Rattle.ip_ground.specs.Contents.{Image}
-use Rattle.ip_ground.specs.Told.{Told}
+use Rattle.ip_ground.specs.declared.names.FileName.TheVariants.{Control}
+use Rattle.ip_ground.specs.Told.{Told, NoFile}
 use Rattle.ip_spec.specs.declared.record.Record.{Record}
 use Rattle.ip_spec.specs.Batch.{AreEndToEnd}
 use Rattle.ip_spec.specs.Path.{Bytes}
 use Rattle.ip_spec.specs.Repository.{Repository}
 use Rattle.ip_spec.specs.TreeAt.{Records}
 use Rattle.ip_image.specs.declared.slot.Slot.{Slot}
-use Rattle.ip_image.specs.Appending.{AddsBytes}
+use Rattle.ip_image.specs.Appending.{AddsBytes, bytes_of_records}
 use Rattle.ip_image.specs.Pending.{HasLive, NothingPending}
 use Rattle.ip_image.specs.Standing.{Standing, StandsFor}
-use Rattle.ip_publish.specs.Publishing.{CanStep, IsWritten, MakesStep}
+use Rattle.ip_publish.specs.Publishing.{CanStep, IsWritten, MakesStep, WritesTo}
 use Rattle.ip_space.specs.SpaceView.{SpaceView, grown}
 use Rattle.ip_held.specs.declared.collection.Collection.{Collection}
 use Rattle.ip_held.specs.declared.fault.StoreFault.{StoreFault}
@@ -31,6 +32,7 @@ use Rattle.ip_held.specs.Clear.{KeepsClear}
 use Rattle.ip_held.specs.Collecting.{Collects, IsPhaseOf}
 use Rattle.ip_held.specs.Fronts.{LeavesFront}
 use Rattle.ip_held.specs.Held.{IsOf, Holds, SameTables, image_records}
+use Rattle.ip_held.specs.Slots.{KeepsSlots}
 use Rattle.ip_held.specs.Step.{IsStep, Grew, MayTake, Took, entered, entered_tables, slot_behind}
 use Rattle.ip_held.specs.Tie.{appending}
 use Rattle.ip_held.specs.TieAppends.{IsTiedBy}
@@ -40,7 +42,8 @@ use Rattle.ip_held.proofs.CollectsOn.{collects_on, unwritten}
 use Rattle.ip_held.proofs.CoreAppends.{answer_seen, is_appended, sees_back, sees_itself, sees_same, sees_still, still_fault, still_value}
 use Rattle.ip_held.proofs.Listed.{same_records}
 use Rattle.ip_held.proofs.LookedUp.{changes_behind, changes_looked, pending_on, stays_behind}
-use Rattle.ip_held.proofs.StepFronts.{leaves_behind, leaves_looked, leaves_none, leaves_step}
+use Rattle.ip_held.proofs.SlotLaws.{slots_none, slots_only, slots_then, writes_none, writes_still, writes_then}
+use Rattle.ip_held.proofs.StepFronts.{leaves_behind, leaves_looked, leaves_none, leaves_step, slots_step}
 use Rattle.ip_held.proofs.Stepping.{changed, changes_none, changes_still, cut_short, itself, list_after, only_changes, may_step, more_made, same_can_step, same_step, stays_made, stays_still, still_list, with_answer, with_fault, with_value}
 
 -- ---- nothing was done
@@ -52,6 +55,8 @@ module _ {A : Type 0} (made : A → Bool) (fault : StoreFault) {store : Held} {r
     list = λ is. absurd is;
     clear = λ has clear. clear;
     fronts = λ pending. leaves_none store held.stands.standing.records (appending more) a;
+    slots = λ pending. slots_none a;
+    writes = writes_none store.slot.chunk store.slot.end (store.slot.end + length (bytes_of_records more)) a;
   }
 
   pub refused_grew : Grew {A = A} made held (Err fault) store a
@@ -84,6 +89,8 @@ module _ {A : Type 0} (made : A → Bool) (x : A) (none : made x ≡ false) {sto
     list = λ is. absurd (cc (is, none));
     clear = λ has clear. clear;
     fronts = λ pending. leaves_none store held.stands.standing.records (appending more) a;
+    slots = λ pending. slots_none a;
+    writes = writes_none store.slot.chunk store.slot.end (store.slot.end + length (bytes_of_records more)) a;
   }
 
   pub still_grew : Grew made held (Ok x) store a
@@ -101,6 +108,8 @@ module _ {A : Type 0} (made : A → Bool) (y : A) (some : made y ≡ true) {stor
     list = λ is. took.list refl;
     clear = λ has. took.clear tt;
     fronts = took.fronts;
+    slots = took.slots;
+    writes = took.writes;
   }
 
   pub value_grew : (now : Held) → Grew (λ (u : Unit {0}). true) held (Ok tt) now b → Grew made held (Ok y) now b
@@ -116,6 +125,8 @@ module _ {A B : Type 0} (of : A → Bool) (made : B → Bool) (fault : StoreFaul
     list = λ is. absurd is;
     clear = λ has. took.clear (with_answer A B fault has);
     fronts = took.fronts;
+    slots = took.slots;
+    writes = took.writes;
   }
 
   pub fault_grew : (now : Held) → Grew {A = A} of held (Err fault) now b → Grew {A = B} made held (Err fault) now b
@@ -136,6 +147,8 @@ module _ {A : Type 0} (made : A → Bool) (fault : StoreFault) {store mid : Held
     list = λ is. absurd is;
     clear = λ has. looked_clear store mid a b same.slot same.unswept looks.reads.only;
     fronts = λ pending. leaves_looked store r a held b looks.reads.only pending (appending more);
+    slots = λ pending. slots_only a b held.kept NoFile (λ none. none) looks.reads.only;
+    writes = writes_still store.slot.chunk store.slot.end (store.slot.end + length (bytes_of_records more)) a b looks.reads.only;
   }
 
   pub looked_grew : Grew {A = A} made held (Err fault) mid b
@@ -151,6 +164,8 @@ module _ {A : Type 0} (made : A → Bool) (x : A) (none : made x ≡ false) {sto
     list = λ is. absurd (cc (is, none));
     clear = λ has. looked_clear store mid a b same.slot same.unswept looks.reads.only;
     fronts = λ pending. leaves_looked store r a held b looks.reads.only pending (appending more);
+    slots = λ pending. slots_only a b held.kept NoFile (λ none. none) looks.reads.only;
+    writes = writes_still store.slot.chunk store.slot.end (store.slot.end + length (bytes_of_records more)) a b looks.reads.only;
   }
 
   pub looked_still_grew : Grew made held (Ok x) mid b
@@ -167,6 +182,9 @@ module _ {A : Type 0} (made : A → Bool) (res : Result A StoreFault) {store mid
     clear = λ has clear. took.clear has (looked_clear store mid a b same.slot same.unswept looks.reads.only clear);
     fronts = λ pending.
         leaves_behind store r a held b looks.reads.only pending (appending more) mid same (looks.holds r held) c took.changes.only.goes (took.fronts (pending_on r store a held b looks.reads.only pending));
+    slots = λ pending. slots_then a b c held.kept (looks.reads.only.others Control (λ none. none)) took.changes.only.goes (took.slots (pending_on r store a held b looks.reads.only pending));
+    writes = writes_then store.slot.chunk store.slot.end (store.slot.end + length (bytes_of_records more)) a b c looks.reads.only
+        (subst (λ (s : Slot). WritesTo s.chunk s.end (s.end + length (bytes_of_records more)) b c) same.slot took.writes);
   }
 
   pub behind_grew : (now : Held) → Grew made (looks.holds r held) res now c → Grew made held res now c
@@ -227,6 +245,9 @@ module _ (store : Held) (bytes : Bytes) (step : Step) (may : MayTake store bytes
       makes_next : MakesStep store.slot.end bytes (1 - store.index) next res a b
       makes_next = subst (λ (s : Slot). MakesStep store.slot.end bytes (1 - store.index) s res a b) may.slot makes
 
+      slots : NothingPending a → KeepsSlots a b
+      slots pending = slots_step r r store may.attempt may.commits bytes of may.room a held b res makes_next pending
+
       module _ (after : Repository) (more : Records) (is : IsStep held after more bytes step) where
         lie : AreEndToEnd store.slot.end more next.end
         lie = subst (λ (s : Slot). AreEndToEnd store.slot.end more s.end) may.slot is.lie
@@ -240,6 +261,9 @@ module _ (store : Held) (bytes : Bytes) (step : Step) (may : MayTake store bytes
         fronts : NothingPending a → LeavesFront store held.stands.standing.records (appending more) a b
         fronts pending = leaves_step r after store may.attempt may.commits bytes of may.room a held stands_new more is.newest lie is.spelled is.rests b res makes_next pending
 
+        writes : WritesTo store.slot.chunk store.slot.end (store.slot.end + length (bytes_of_records more)) a b
+        writes = subst (λ (bs : Bytes). WritesTo store.slot.chunk store.slot.end (store.slot.end + length bs) a b) is.spelled makes_next.writes
+
         -- a fault of the ground cut it short
         pub cut_took : (now : Held) → Took {A = Unit {0}} (λ done. true) held after more (Err StoreFault.Ground) now b
         cut_took now = record {
@@ -247,6 +271,8 @@ module _ (store : Held) (bytes : Bytes) (step : Step) (may : MayTake store bytes
           list = λ none. absurd none;
           clear = λ has. absurd has;
           fronts = fronts;
+          slots = slots;
+          writes = writes;
         }
 
     module _ (b : Told) (makes : MakesStep store.slot.end bytes (1 - store.index) step.slot (Ok tt) a b) where
@@ -275,7 +301,7 @@ module _ (store : Held) (bytes : Bytes) (step : Step) (may : MayTake store bytes
 
         collects : (B : Standing b.held) → IfSome (entered store step).collection (Collects b step.slot B.records after)
         collects B = subst (λ (o : Option Collection). IfSome o (Collects b step.slot B.records after)) (sym collection)
-            (collects_on store r after a b held (IsWritten step.slot.chunk store.slot.end) makes.only (λ file n of. unwritten step.slot.chunk store.slot.end file n of) step.slot (ap (λ (s : Slot). s.horizon) may.slot)
+            (collects_on store r after a b held (IsWritten step.slot.chunk store.slot.end (store.slot.end + length bytes)) makes.writes.only (λ file n of. unwritten step.slot.chunk store.slot.end (store.slot.end + length bytes) file n of) step.slot (ap (λ (s : Slot). s.horizon) may.slot)
             (let ends = ap (λ (s : Slot). s.end) may.slot in let some = may.some in omega (arith, ends, some))
             (let ends = ap (λ (s : Slot). s.end) may.slot in let small = may.room.ends in omega (arith, ends, small)) more is.lie phase is.rests B (list B))
 
@@ -289,4 +315,6 @@ module _ (store : Held) (bytes : Bytes) (step : Step) (may : MayTake store bytes
           list = λ some q still. list still.stands.standing;
           clear = λ has. changed_clear store r a b held step.slot (entered store step).unswept (ap (λ (s : Slot). s.first_chunk) may.slot, ap (λ (s : Slot). s.first_attempt) may.slot) (entered_keeps step.entry store).unswept changes.only;
           fronts = fronts b (Ok tt) makes after more is;
+          slots = slots b (Ok tt) makes;
+          writes = writes b (Ok tt) makes after more is;
         }

@@ -10,6 +10,7 @@ pub mod Held
 pub mod Placed
 pub mod Rooted
 pub mod Showing
+pub mod Slots
 pub mod StandsBy
 pub mod Step
 pub mod Sweeping

@@ -26,6 +26,7 @@ use Rattle.ip_image.specs.Pending.{HasLive, NothingPending}
 use Rattle.ip_image.specs.Standing.{StandsFor, names_after}
 use Rattle.ip_image.proofs.PairLaws.{Has}
 use Rattle.ip_image.proofs.StayingRecords.{In, refs_of}
+use Rattle.ip_publish.specs.Publishing.{WritesTo}
 use Rattle.ip_space.specs.SpaceView.{grown}
 use Rattle.ip_tables.specs.Histories as histories
 use Rattle.ip_held.specs.declared.collection.Collection.{Collection}
@@ -40,6 +41,7 @@ use Rattle.ip_held.specs.Collecting.{Collects}
 use Rattle.ip_held.specs.Fronts.{LeavesFront}
 use Rattle.ip_held.specs.Held.{IsOf, Holds, image_records}
 use Rattle.ip_held.specs.Placed.{places_in}
+use Rattle.ip_held.specs.Slots.{KeepsSlots}
 use Rattle.ip_held.specs.Tie.{appending}
 use Rattle.ip_held.specs.TieAppends.{IsTiedAnswer}
 use Rattle.ip_held.specs.Trees.{RecordsStay}
@@ -50,9 +52,10 @@ abbrev pub slot_behind : Slot → Unswept → ℕ → ℕ → ℕ → Slot
 slot_behind s u attempt length commits =
     record s { sequence = s.sequence + 1; end = s.end + length; next = s.next + commits; next_attempt = attempt; first_chunk = u.chunk; first_attempt = u.attempt }
 
--- with no more commits than bytes
+-- one attempt is drawn at most, and there are no more commits than bytes
 pub record HasRoom (s : Slot) (attempt length commits : ℕ) : Type 0 where
   pub drawn : s.next_attempt ≤ attempt
+  pub one : attempt ≤ s.next_attempt + 1
   pub attempts : attempt ≤ OFFSET_MAX
   pub ends : s.end + length ≤ OFFSET_MAX
   pub sequence : s.sequence < OFFSET_MAX
@@ -118,3 +121,7 @@ pub record Took {A : Type 0} (made : A → Bool) {store : Held} {old : Told} {r 
   pub clear : HasAnswer result → KeepsClear store now old new
   -- where nothing was pending a crash at any moment, within a fault of the ground too, leaves a front of its events
   pub fronts : NothingPending old → LeavesFront store held.stands.standing.records (appending more) old new
+  -- and the slot that was live, or the next
+  pub slots : NothingPending old → KeepsSlots old new
+  -- no byte of a chunk changes behind the records, nor any chunk that holds none of them
+  pub writes : WritesTo store.slot.chunk store.slot.end (store.slot.end + length (bytes_of_records more)) old new

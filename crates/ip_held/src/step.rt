@@ -12,7 +12,9 @@ ghost use Rattle.ip_held.specs.Held.{IsOf, Holds};
 ghost use Rattle.ip_held.specs.Step.{Grew, IsStep, MayEnter, MayTake, Took, entered, entered_tables};
 ghost use Rattle.ip_held.specs.declared.fault.StoreFault.TheVariants as StoreFault;
 ghost use Rattle.ip_held.specs.declared.step.Entry.TheVariants as Entry;
+ghost use Rattle.ip_ground.specs.Told.{ChangesOnly};
 ghost use Rattle.ip_image.specs.Slot.{IsSlot};
+ghost use Rattle.ip_publish.specs.Publishing.{IsOfStore};
 ghost use Rattle.ip_image.specs.Standing.{names_after};
 ghost use Rattle.ip_spec.specs.Map.{insert};
 ghost use Rattle.ip_spec.specs.Path.{same_bytes};
@@ -204,6 +206,8 @@ impl Held {
         // Whichever repository the step leads to: this is all that is told of what a crash leaves.
         ensures took { IsTrue G.tells → (r after : Repository) (more : Records) (held : Holds self.old (G.told outside.old) r) → IsStep held after more bytes.now step →
             Took (λ done. true) held after more result self.new (G.told outside.new) }
+        // No other file is touched, whatever the files are.
+        ensures beside { IsTrue G.tells → ChangesOnly IsOfStore (G.told outside.old) (G.told outside.new) }
         // What was cleared away stays so, whichever repository the step leads to.
         ensures clear { IsTrue G.tells → HasAnswer result → (r : Repository) → Holds self.old (G.told outside.old) r → KeepsClear self.old self.new (G.told outside.old) (G.told outside.new) }
         ensures counts { Counts counted_store result (G.counts_of outside.old) (G.counts_of outside.new) }

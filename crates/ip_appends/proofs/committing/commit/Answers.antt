@@ -43,7 +43,7 @@ returns-in_err-take-clause-commits g c =
     subst (λ (res : Result Hash StoreFault). CommitsWork g.G.Ground.tells c.args.branch.now c.args.info res c.args.store.now c.take.new.self c.args.work.now c.args.work.now (g.G.Ground.told c.args.outside.now) (g.G.Ground.told c.take.new.outside)) (sym is)
     (commit_cut g.G.Ground.tells c.args.branch.now c.args.info c.args.store.now c.plan_commit.new.store c.args.work.now (g.G.Ground.told c.args.outside.now) (g.G.Ground.told c.plan_commit.new.outside) c.plan_commit.ensures.same c.plan_commit.ensures.looks
     plan c.in_ok-plan.ensures.coming c.in_ok-plan.ensures.planned c.in_ok-plan.ensures.there c.in_ok-plan.ensures.passed c.take.new.self (g.G.Ground.told c.take.new.outside) (Err fault) c.take.ensures.numbers c.take.ensures.same_collection c.take.ensures.unswept c.in_err-take.ensures.grew
-    (λ told r after more held step. c.in_err-take.ensures.took told r after more held (subst (λ bytes. IsStep held after more bytes plan.step) (sym c.bytes.ensures) step)) c.in_err-take.ensures.clear
+    (λ told r after more held step. c.in_err-take.ensures.took told r after more held (subst (λ bytes. IsStep held after more bytes plan.step) (sym c.bytes.ensures) step)) c.in_err-take.ensures.clear c.take.ensures.beside
     fault refl c.in_err-take.ensures.fault (λ e. let none = c.in_err-take.ensures.refused (ap Err e) in (none.0, ap g.G.Ground.told none.1)))
 
 pub returns-clause-commits : goal.returns-clause-commits
@@ -51,5 +51,5 @@ returns-clause-commits g c =
     let plan = c.in_ok-plan.plan in
     commit_made g.G.Ground.tells c.args.branch.now c.args.info c.args.store.now c.plan_commit.new.store c.args.work.now (g.G.Ground.told c.args.outside.now) (g.G.Ground.told c.plan_commit.new.outside) c.plan_commit.ensures.same c.plan_commit.ensures.looks
     plan c.in_ok-plan.ensures.coming c.in_ok-plan.ensures.planned c.in_ok-plan.ensures.there c.in_ok-plan.ensures.passed c.take.new.self (g.G.Ground.told c.take.new.outside) (Ok tt) c.take.ensures.numbers c.take.ensures.same_collection c.take.ensures.unswept c.in_ok-take.ensures.grew
-    (λ told r after more held step. c.in_ok-take.ensures.took told r after more held (subst (λ bytes. IsStep held after more bytes plan.step) (sym c.bytes.ensures) step)) c.in_ok-take.ensures.clear
+    (λ told r after more held step. c.in_ok-take.ensures.took told r after more held (subst (λ bytes. IsStep held after more bytes plan.step) (sym c.bytes.ensures) step)) c.in_ok-take.ensures.clear c.take.ensures.beside
     refl c.in_ok-take.ensures.taken _ (read_root plan.number c.root.result plan.batch.root c.of.result c.root.ensures c.of.ensures) refl refl c.name.result c.name.ensures

@@ -30,4 +30,4 @@ returns-clause-appends g c =
     let counted : c.len.result ≡ length c.as_slice.result.now = search rules in
     record_taken g.G.Ground.tells c.args.rec c.requires.fits c.requires.served c.args.store.now c.requires.above _ (c.as_slice.ensures.value ∙ c.in_ok-bytes.ensures) c.in_ok-slot.slot c.len.result counted c.in_ok-slot.ensures
     c.take.result c.take.new.self (g.G.Ground.told c.args.outside.now) (g.G.Ground.told c.take.new.outside) c.take.ensures.taken (λ e. (c.take.ensures.refused e).0) (λ tells e. ap g.G.Ground.told (c.take.ensures.refused e).1) c.take.ensures.fault c.take.ensures.took
-    c.requires.tables.0 c.requires.tables.1 c.requires.tables.2 c.take.ensures.same_collection c.take.ensures.unswept c.take.ensures.grew c.take.ensures.clear
+    c.requires.tables.0 c.requires.tables.1 c.requires.tables.2 c.take.ensures.same_collection c.take.ensures.unswept c.take.ensures.grew c.take.ensures.clear c.take.ensures.beside

@@ -1,9 +1,12 @@
-use Rattle.std.proofs.Common.{◌≡◌, rules, sym, subst}
+use Rattle.std.proofs.Common.{◌≡◌, ◌+◌, length, rules, sym, subst}
 use Rattle.std.specs.Prelude.{true, Result, Ok, Err}
+use Rattle.ip_ground.proofs.Spans.{only_nowhere}
+use Rattle.ip_publish.specs.Publishing.{IsOfStore}
 use Rattle.ip_held.specs.declared.fault.StoreFault.{StoreFault}
 use Rattle.ip_held.specs.declared.held.Held.{Held}
 use Rattle.ip_held.specs.Clear.{KeepsClear}
 use Rattle.ip_held.specs.Step.{Grew, Took}
+use Rattle.ip_held.proofs.SlotLaws.{writes_store}
 use Rattle.ip_held.proofs.Taking.{cut_clear, cut_grew, cut_took, entered_is, may_take, none_grew, none_took, step_from, taken_clear, taken_grew, taken_took}
 use Rattle.ip_held.proofs.held.Held.take.Goals as goal
 
@@ -91,3 +94,20 @@ returns-clause-clear g c told has r held =
     let makes = step_from store c.args.bytes.now c.args.step may r held.tables a held mid same b (Ok tt) (c.in_ok-durable_step.ensures.does told (may_take store c.args.bytes.now c.args.step may r held.tables a held mid same)) in
     subst (λ (now : Held). KeepsClear store now a b) (sym (entered_is store c.args.step mid same c.grow.new.self c.grow.ensures))
     (taken_clear store c.args.bytes.now c.args.step may r held.tables a held b makes)
+
+-- ---- no other file is touched
+
+pub returns-in_err-enter-clause-beside : goal.returns-in_err-enter-clause-beside
+returns-in_err-enter-clause-beside g c told = only_nowhere (g.G.Ground.told c.args.outside.now) IsOfStore
+
+pub returns-in_err-durable_step-clause-beside : goal.returns-in_err-durable_step-clause-beside
+returns-in_err-durable_step-clause-beside g c told =
+    let mid = c.enter.new.self in
+    let size = c.args.step.slot.chunk in
+    writes_store size mid.slot.end (mid.slot.end + length c.args.bytes.now) (g.G.Ground.told c.args.outside.now) (g.G.Ground.told c.durable_step.new.outside) (c.durable_step.ensures.only told)
+
+pub returns-clause-beside : goal.returns-clause-beside
+returns-clause-beside g c told =
+    let mid = c.enter.new.self in
+    let size = c.args.step.slot.chunk in
+    writes_store size mid.slot.end (mid.slot.end + length c.args.bytes.now) (g.G.Ground.told c.args.outside.now) (g.G.Ground.told c.durable_step.new.outside) (c.in_ok-durable_step.ensures.only told)
