@@ -5,4 +5,3 @@ pub mod OpenedImages
 pub mod OpenedStores
 pub mod RecordSteps
 pub mod Walking
-pub mod Hashes

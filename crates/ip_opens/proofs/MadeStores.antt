@@ -1,6 +1,7 @@
 -- What making a store does, exit by exit.
-use Rattle.std.proofs.Common.{take, List, arith, subst, ◌≡◌, ◌<◌, ℕ, false, sym, ◌∙◌, ap, Ok, Err}
+use Rattle.std.proofs.Common.{take, List, arith, subst, ◌≡◌, ◌<◌, ℕ, false, sym, ◌∙◌, ap, None, Ok, Err}
 use Rattle.std.specs.Prelude.{Result, IsSome, IsErrAnd, is_some}
+use Rattle.std.proofs.lemmas.Bool.{false≢true}
 use Rattle.ip_ground.specs.declared.names.FileName.TheVariants.{Control}
 use Rattle.ip_ground.specs.declared.names.GroundFault.{GroundFault}
 use Rattle.ip_ground.specs.Contents.{bytes_of}
@@ -20,15 +21,22 @@ use Rattle.ip_opens.specs.Opening.{Makes}
 use Rattle.ip_opens.proofs.ClearOpens.{made_clear}
 use Rattle.ip_held.proofs.Reading.{own, control_passes, fresh_written, fresh_now, none_of}
 
-to_control : (a b : Told) → ChangesOnly NoFile a b → ChangesOnly (Only Control) a b
+pub to_control : (a b : Told) → ChangesOnly NoFile a b → ChangesOnly (Only Control) a b
 to_control a b passes = only_more a b NoFile (Only Control) (λ file none. absurd none) passes
+
+-- where no slot is open none is, and so it was before what passed
+was_closed : (a b : Told) → ChangesOnly NoFile a b → is_some (live_index (control_in b.held)) ≡ false → live_index (control_in a.held) ≡ None
+was_closed a b passes closed = ap live_index (sym (control_passes a b passes)) ∙ none_of _ closed
+
+pub not_open : (a b : Told) {P : Type 0} → ChangesOnly NoFile a b → is_some (live_index (control_in b.held)) ≡ false → IsSome (live_index (control_in a.held)) → P
+not_open a b passes closed is = absurd (false≢true (sym (ap is_some (was_closed a b passes closed)) ∙ is))
 
 pub is_there : (chunk : ℕ) (a b : Told) → ChangesOnly NoFile a b → IsSome (live_index (control_in b.held)) → Makes chunk (Err InitFault.Existing) a b
 is_there chunk a b passes live = record {
   only = to_control a b passes;
   closed = tt;
   existing = λ e. subst_live (control_passes a b passes);
-  unchanged = λ e. passes;
+  unchanged = λ is. passes;
   made = tt;
   kept = tt;
   stands = tt;
@@ -40,13 +48,13 @@ is_there chunk a b passes live = record {
     subst_live e = ap (λ bytes. is_some (live_index bytes)) (sym e) ∙ live
 
 -- a call that failed
-pub fails : (chunk : ℕ) (s : Result (Unit {0}) InitFault) (a b : Told) → IsErrAnd s (λ e. e ≡ InitFault.Ground) → ChangesOnly (Only Control) a b → Makes chunk s a b
-fails chunk (Ok u) a b fault only = absurd fault
-fails chunk (Err e) a b fault only = record {
+pub fails : (chunk : ℕ) (s : Result (Unit {0}) InitFault) (a b : Told) → IsErrAnd s (λ e. e ≡ InitFault.Ground) → ChangesOnly (Only Control) a b → (IsSome (live_index (control_in a.held)) → ChangesOnly NoFile a b) → Makes chunk s a b
+fails chunk (Ok u) a b fault only spared = absurd fault
+fails chunk (Err e) a b fault only spared = record {
   only = only;
   closed = tt;
   existing = λ is. absurd (cc (fault, is));
-  unchanged = λ is. absurd (cc (fault, is));
+  unchanged = spared;
   made = tt;
   kept = tt;
   stands = tt;
@@ -84,9 +92,9 @@ fresh_pending chunk size told is none = record {
 pub makes : (chunk : ℕ) → IsChunkSize chunk → (a b c d : Told) → ChangesOnly NoFile a b → is_some (live_index (control_in b.held)) ≡ false → Writes Control 0 (fresh_control chunk) (Ok tt) b c → Syncs Control (Ok tt) c d → Makes chunk (Ok tt) a d
 makes chunk size a b c d passes closed writes syncs = record {
   only = only;
-  closed = ap live_index (sym (control_passes a b passes)) ∙ none_of _ closed;
+  closed = was_closed a b passes closed;
   existing = λ is. absurd (cc (is));
-  unchanged = λ is. absurd (cc (is));
+  unchanged = not_open a b passes closed;
   made = made;
   kept = syncs.ok (λ x. x);
   stands = fresh_now chunk size d made (syncs.ok (λ x. x));

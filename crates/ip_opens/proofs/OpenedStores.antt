@@ -1,7 +1,7 @@
 -- The store that is made of a slot and of what was found, and what opening answers.
 --     whole_of, whole_by      the test at the end, and back from what is whole.      tables_of, holds_of      the repository of the store, which it holds
 --     sync_only, finds_fault, finds, finds_form      the exits of finding the slot.      opens_none, opens_no_space, opens_bad_as, opens_by      those of opening
-use Rattle.std.proofs.Common.{◌≡◌, ℕ, ◌+◌, ◌*◌, ◌<◌, ◌≤◌, inl, inr, Bool, true, List, [], ◌∷◌, map, length, refl, sym, ◌∙◌, ap, subst, arith}
+use Rattle.std.proofs.Common.{◌≡◌, ◌≢◌, ℕ, ◌+◌, ◌*◌, ◌<◌, ◌≤◌, inl, inr, Bool, true, List, [], ◌∷◌, map, length, refl, sym, ◌∙◌, ap, subst, arith}
 use Rattle.std.specs.Prelude.{Option, Some, None, Result, Ok, Err, IfOk, OnOk, IsErr, IsErrAnd, IsErrOf, IsSome, IfSome, IsTrue, All, is_none, option_map}
 use Rattle.std.specs.List.{AllByRecursion}
 use Rattle.std.proofs.lemmas.Bool.{cases_lt}
@@ -26,7 +26,7 @@ use Rattle.ip_image.specs.declared.slot.Slot.{Slot}
 use Rattle.ip_image.specs.Slot.{IsSlot, IsLive, live_index, layout_of}
 use Rattle.ip_image.specs.declared.run.Row.{Row}
 use Rattle.ip_image.specs.Virtual.{run_of}
-use Rattle.ip_image.specs.Standing.{RunByRun, AreRetained, Generation, WholeFits, DamagedAt, NoStore, commits_in}
+use Rattle.ip_image.specs.Standing.{RunByRun, AreRetained, Generation, WholeFits, DamagedAt, commits_in}
 use Rattle.ip_image.specs.Pending.{HasLive, NothingPending}
 use Rattle.ip_image.proofs.HeadlineLaws.{pending_synced}
 use Rattle.ip_control.specs.declared.fault.ControlFault.{ControlFault}
@@ -37,6 +37,8 @@ use Rattle.ip_held.specs.declared.held.Held.{Held}
 use Rattle.ip_opens.specs.declared.walk.Found.{Found}
 use Rattle.ip_held.specs.Control.{control_in}
 use Rattle.ip_space.specs.SpaceView.{SpaceView, AreCurrent, IsReadable, byte_at, records_of, stretches_of}
+use Rattle.ip_space.specs.Pair.{HasRowsLength}
+use Rattle.ip_space.proofs.LivePair.{rows_length}
 use Rattle.ip_space.proofs.Stayed.{readable_stays}
 use Rattle.ip_held.specs.Collecting.{IsGoing, Collects}
 use Rattle.ip_held.specs.Placed.{places_in, IsSpaceOf}
@@ -46,7 +48,7 @@ use Rattle.ip_held.specs.Held.{IsOf, OwnsPair, OwnsLive, Holds}
 use Rattle.ip_opens.specs.Opening.{RecoversOnceOpen, Opens}
 use Rattle.ip_held.proofs.Phases.{no_phase}
 use Rattle.ip_held.proofs.Recovering.{recovers_from}
-use Rattle.ip_opens.proofs.Hashes.{sha_is_hash}
+use Rattle.ip_save.proofs.Hashes.{sha_is_hash}
 use Rattle.ip_held.proofs.Listed.{places_size}
 use Rattle.ip_held.proofs.BranchNames.{named_all, placed_within}
 use Rattle.ip_held.proofs.Stepping.{space_same, unswept_same, within_same, rising_same}
@@ -288,19 +290,14 @@ module _ (index : ℕ) (s : Slot) (below : index < 2) (is : IsSlot s) (a b : Tol
         let pair = owns s (record { control = has.control; index = has.index; held = sym ((only_now.files Control).held (λ x. x)) ∙ has.held; live = has.live }) live in
         record { mapping = (only_now.files (Mapping s.live)).own pair.mapping; prefix = (only_now.files (Prefix s.live)).own pair.prefix }
 
-    some_store : ¬ NoStore c.held
-    some_store none =
-        let has : HasLive s c.held = has_live c.held index s live_now in
-        let shut : live_index has.control ≡ None = subst (λ (content : Content). IfSome content (λ control. live_index control ≡ None)) has.held none in
-        absurd (cc (shut, has.live.index))
-
     -- an answer without a store
-    opens_without : (fault : OpenFault) → (fault ≡ OpenFault.NoStore → ⊥) → (OwnsLive a → (file : FileName) (at : ℕ) → fault ≡ OpenFault.Damaged file at → DamagedAt c.held file at) → Opens (Err fault) a c
-    opens_without fault there damaged = record {
+    opens_without : (fault : OpenFault) → (fault ≡ OpenFault.NoStore → ⊥) → (OwnsLive a → fault ≡ OpenFault.Memory → s.live ≢ 0 → HasRowsLength c.held (layout_of s))
+        → (OwnsLive a → (file : FileName) (at : ℕ) → fault ≡ OpenFault.Damaged file at → DamagedAt c.held file at) → Opens (Err fault) a c
+    opens_without fault there wanted damaged = record {
       only = only_now;
       no_store = λ none. absurd (there (same_fault fault OpenFault.NoStore none));
       damaged = λ owns file at is. damaged owns file at (same_fault fault (OpenFault.Damaged file at) is);
-      memory = λ memory. some_store;
+      memory = λ memory. (s, has_live c.held index s live_now, λ owns live. wanted owns (same_fault fault OpenFault.Memory memory) live);
       holds = λ owns. tt;
       opening = opening_now;
       reached = λ answered some. reached_now some;
@@ -315,6 +312,7 @@ module _ (index : ℕ) (s : Slot) (below : index < 2) (is : IsSlot s) (a b : Tol
   opens_no_space c reads (Ok store) fault is there finds = absurd is.1
   opens_no_space c reads (Err other) fault is there finds =
       opens_without c reads other (λ none. there (ap (λ (f : OpenFault). Err f) (sym is.1 ∙ none)))
+      (λ owns memory. subst (λ (f : OpenFault). FindsGeneration c.held s (Err f)) (sym is.1 ∙ memory) (finds (owns_now b (only_nowhere b NoFile) owns)))
       (λ owns file at damaged. bad_generation c reads fault (finds (owns_now b (only_nowhere b NoFile) owns)) file at (sym is.1 ∙ damaged))
 
   -- a space was found at one moment, and its records were read up to another
@@ -335,11 +333,14 @@ module _ (index : ℕ) (s : Slot) (below : index < 2) (is : IsSlot s) (a b : Tol
     generation_now : (owns : OwnsLive a) → Generation c.held (layout_of s) (finds (owned owns)).0
     generation_now owns = generation_stays s m c later (owns_now m first owns) (finds (owned owns)).0 (finds (owned owns)).1
 
+    length_now : OwnsLive a → s.live ≢ 0 → HasRowsLength c.held (layout_of s)
+    length_now owns live = rows_length c.held (layout_of s) (finds (owned owns)).0 ((generation_now owns).file live)
+
     pub opens_bad_as : (r : Result Held OpenFault) (fault : OpenFault) → IsErr r × IsErrAnd r (λ e. e ≡ fault) → (IsErrOf {T = Found} (Err fault) OpenFault.NoStore → ⊥)
         → (IsReadable m space → (file : FileName) (at : ℕ) → IsErrOf {T = Found} (Err fault) (OpenFault.Damaged file at) → BadRecord s c space file at) → Opens r a c
     opens_bad_as (Ok store) fault is there bad = absurd is.1
     opens_bad_as (Err other) fault is there bad =
-        opens_without c reads other (λ none. there (ap (λ (f : OpenFault). Err f) (sym is.1 ∙ none))) (λ owns file at damaged.
+        opens_without c reads other (λ none. there (ap (λ (f : OpenFault). Err f) (sym is.1 ∙ none))) (λ owns memory live. length_now owns live) (λ owns file at damaged.
         bad_damaged c index s (live_now c reads) (finds (owned owns)).0 (generation_now owns) space of (finds (owned owns)).2 file at
         (bad (readable_then owns) file at (ap (λ (f : OpenFault). Err f) (sym is.1 ∙ damaged))))
 
@@ -358,10 +359,13 @@ module _ (index : ℕ) (s : Slot) (below : index < 2) (is : IsSlot s) (a b : Tol
       reached = λ answered some. reached_now c reads some;
     }
     opens_at_end found (Err fault) covers finished space_is =
-        opens_without c reads fault (λ none. absurd (other_fault (sym finished.0 ∙ none))) (λ owns file at damaged. at_slot owns file at (sym finished.0 ∙ damaged))
+        opens_without c reads fault (λ none. absurd (other_fault (sym finished.0 ∙ none))) (λ owns memory. absurd (no_memory (sym finished.0 ∙ memory))) (λ owns file at damaged. at_slot owns file at (sym finished.0 ∙ damaged))
       where
         other_fault : OpenFault.Damaged Control (128 * index) ≡ OpenFault.NoStore → ⊥
         other_fault e = cc
+
+        no_memory : OpenFault.Damaged Control (128 * index) ≡ OpenFault.Memory → ⊥
+        no_memory e = cc
 
         at_slot : OwnsLive a → (file : FileName) (at : ℕ) → OpenFault.Damaged Control (128 * index) ≡ OpenFault.Damaged file at → DamagedAt c.held file at
         at_slot owns file at e =

@@ -12,7 +12,7 @@ use Rattle.ip_image.specs.Slot.{IsLive, layout_of}
 use Rattle.ip_image.specs.declared.run.Row.{Row}
 use Rattle.ip_image.specs.Virtual.{run_of}
 use Rattle.ip_image.specs.Standing.{NoStore, DamagedAt, Generation, WholeFits, commits_in, named}
-use Rattle.ip_space.specs.Pair.{IsBadPair}
+use Rattle.ip_space.specs.Pair.{HasRowsLength, IsBadPair}
 use Rattle.ip_space.specs.SpaceView.{SpaceView}
 use Rattle.ip_audit.specs.Audits.{commit_name}
 use Rattle.ip_history.specs.History.{HasParentsFirst}
@@ -47,13 +47,13 @@ pub record FindsSlot (result : Result (ℕ × Slot) OpenFault) (old new : Told) 
   pub reached : IsReached result → IsSome (old.held Control) → since ≤ new.moment
   pub left : (t : ℕ) → since ≤ t → t ≤ new.moment → (content : Content) → new.may_leave t Control content → content ≡ new.held Control
 
--- a fault of the ground and want of memory say nothing
+-- A fault of the ground says nothing. Memory is wanted only for a mapping of the right length.
 abbrev pub FindsGeneration : Image → Slot → Result SpaceView OpenFault → Type 0
 FindsGeneration image s (Ok space) = (rows : List Row) × Generation image (layout_of s) rows × (space.runs ≡ map run_of rows)
 FindsGeneration image s (Err OpenFault.NoStore) = ⊥
 FindsGeneration image s (Err (OpenFault.Damaged file at)) = (s.live ≢ 0) × IsBadPair image (layout_of s) file at
 FindsGeneration image s (Err OpenFault.Ground) = Unit {0}
-FindsGeneration image s (Err OpenFault.Memory) = Unit {0}
+FindsGeneration image s (Err OpenFault.Memory) = s.live ≢ 0 → HasRowsLength image (layout_of s)
 
 -- whatever the records are of which it is true
 pub record Finished (number : ℕ) (s : Slot) (found : Found) (store : Held) : Type 0 where

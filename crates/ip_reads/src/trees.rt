@@ -1,5 +1,6 @@
 // Trees over a store's records.
-ghost use Rattle.std.specs.Prelude.{◌≡◌, IfErr, IsTrue, MatchResult};
+ghost use Rattle.std.specs.Prelude.{◌≡◌, ◌<◌, length, Err, IfErr, IsTrue, MatchResult};
+ghost use Rattle.ip_base.specs.declared.limit.Limit.TheVariants as Limit;
 ghost use Rattle.ip_held.specs.Causes.{IsStoreCause};
 ghost use Rattle.ip_held.specs.Faults.{counted_store};
 ghost use Rattle.ip_tree.specs.Faults.{counted_tree};
@@ -7,6 +8,7 @@ ghost use Rattle.ip_ground.specs.Counts.{Counts};
 ghost use Rattle.ip_space.specs.SpaceView.{IsReadable, records_of};
 ghost use Rattle.ip_spec.specs.Path.{IsPath};
 ghost use Rattle.ip_spec.specs.Repository.{Repository, is_retained, name_at};
+ghost use Rattle.ip_spec.specs.Step.{contents_limit};
 ghost use Rattle.ip_spec.specs.Tree.{got_at, listed_at};
 ghost use Rattle.ip_spec.specs.View.{View};
 ghost use Rattle.ip_tree.specs.Reads.{IsCause, IsFree};
@@ -76,6 +78,7 @@ pub fn set<G: Ground>(
     ensures sets { IsTrue G.tells → (r : Repository) (v : View) (held : Holds store.old (G.told outside.old) r) → IsView (image_records held) tree.old v
         → Sets (image_records held) path.now value.now tree.new v result }
     ensures same { SameTables store.old store.new }
+    ensures long { contents_limit < length value.now → result ≡ Err (TreeFault.Limit Limit.Contents) }
     ensures looks { IsTrue G.tells → OnlyLooks (G.told outside.old) (G.told outside.new) store.old store.new }
     ensures counts { Counts counted_tree result (G.counts_of outside.old) (G.counts_of outside.new) }
     ensures causes { IfErr result (IsCause G.tells (G.told outside.old) store.old.space) }

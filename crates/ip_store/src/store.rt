@@ -1,9 +1,11 @@
 // The store: what it holds, what the last call has met that may change it, and all of its calls.
-ghost use Rattle.std.specs.Prelude.{◌≡◌, IsTrue, IfOk, slice_get, map, option_map, MatchOption, None, Some, IfErr, IsErr, reverse, MatchResult, false, Ok, ◌+◌, Option, true, IsErrOf, ◌⊎◌, ◌++◌, OnOk, is_err, IsSome, is_some, not};
+ghost use Rattle.std.specs.Prelude.{◌≡◌, IsTrue, IfOk, slice_get, map, option_map, MatchOption, None, Some, IfErr, IsErr, reverse, MatchResult, false, Ok, ◌+◌, Option, true, IsErrOf, ◌⊎◌, ◌++◌, OnOk, is_err, IsSome, is_some, not, ◌<◌, length, Err};
+ghost use Rattle.ip_base.specs.declared.limit.Limit.TheVariants as Limit;
+ghost use Rattle.ip_tree.specs.declared.tree.TreeFault.TheVariants as TreeFault;
 ghost use Rattle.ip_spec.specs.Map.{len};
 ghost use Rattle.ip_spec.specs.Repository.{Repository, next, head, number_named, commit_at, is_retained, name_at};
 ghost use Rattle.ip_spec.specs.Machine.{phase_told};
-ghost use Rattle.ip_spec.specs.Step.{below, head_of};
+ghost use Rattle.ip_spec.specs.Step.{below, contents_limit, head_of};
 ghost use Rattle.ip_held.specs.Collecting.{phase_of, child_of};
 ghost use Rattle.ip_held.specs.Held.{IsOf, place_of_commit, Holds, SameTables, image_records};
 ghost use Rattle.ip_held.specs.Causes.{IsStoreCause};
@@ -285,6 +287,7 @@ impl Store {
         ensures sets { IsTrue G.tells → (r : Repository) (v : View) (held : Holds self.old.held (G.told outside.old) r) → IsView (image_records held) tree.old v
             → Sets (image_records held) path.now value.now tree.new v result }
         ensures same { SameTables self.old.held self.new.held }
+        ensures long { contents_limit < length value.now → result ≡ Err (TreeFault.Limit Limit.Contents) }
         ensures looks { IsTrue G.tells → OnlyLooks (G.told outside.old) (G.told outside.new) self.old.held self.new.held }
         ensures met { self.new.met ≡ self.old.met }
         ensures counts { Counts counted_tree result (G.counts_of outside.old) (G.counts_of outside.new) }
