@@ -59,6 +59,7 @@ use Rattle.ip_publish.specs.Publishing.{TurnsGate}
 use Rattle.ip_held.specs.StandsBy.{LeavesStill, LeavesSwapped, StandsBy}
 use Rattle.ip_held.specs.Held.{IsOf, OwnsPair, Holds}
 use Rattle.ip_collects.specs.Swapping.{Accepts, AcceptsAs, IsSwap, IsSwapFault, IsTurnedDown, RefusesSwap, SwapsTables, SyncsPair, turned_down}
+use Rattle.ip_held.specs.Slots.{IsNext, KeepsSlots}
 use Rattle.ip_held.specs.Sweeping.{IsApart, EndsFor, KeepsFiles}
 use Rattle.ip_held.proofs.Apart.{holds_apart, list_apart, live_apart, recovers_apart, pending_apart, flushed_apart, leaves_apart}
 use Rattle.ip_collects.proofs.Cancels.{over, held_idle, other, below}
@@ -72,6 +73,7 @@ use Rattle.ip_held.proofs.LeftImages.{by_same, swapped_front, swapped_none, swap
 use Rattle.ip_held.proofs.Listed.{none_current, same_slot}
 use Rattle.ip_held.proofs.Recovering.{in_image, held_has, recovers_now}
 use Rattle.ip_held.proofs.Remaining.{remaining_places}
+use Rattle.ip_held.proofs.SlotLaws.{slots_ends, slots_none, slots_then, slots_turned}
 use Rattle.ip_held.proofs.Stepping.{none_since}
 use Rattle.ip_collects.proofs.Swapped.{few_bytes, few_rows, check_of, swapped_is}
 use Rattle.ip_collects.proofs.SwapStep.{Swaps, either_left, either_stands, both_at}
@@ -118,6 +120,10 @@ refused_tables store r c (FinishFault.Limit limit) refused = (refl, by limit ref
 refused_tables store r c (FinishFault.Damaged at) refused = refl
 refused_tables store r c FinishFault.Ground refused = refl
 refused_tables store r c FinishFault.Memory refused = refl
+
+-- memory is wanted only where the sequence goes on
+pub refused_sequence : (store : Held) (c : Collection) (fault : FinishFault) → RefusesSwap store c fault → ◌≡◌ {A = Result (Unit {0}) FinishFault} (Err fault) (Err FinishFault.Memory) → store.slot.sequence < OFFSET_MAX
+refused_sequence store c fault refused is = (let same : fault ≡ FinishFault.Memory = cc (is) in subst (RefusesSwap store c) same refused)
 
 -- and of what is counted
 pub refused_counts : (store : Held) (c : Collection) (fault : FinishFault) (k l : Noted) → RefusesSwap store c fault → (IsUndamaged {A = Unit {0}} (Err fault) → l ≡ k) → ((¬ IsUndamaged {A = Unit {0}} (Err fault)) → DamageFound k l) → CountsIf (counted_finish fault) k l
@@ -227,6 +233,7 @@ module _ (store : Held) (r : Repository) (a : Told) (held : Holds store a r) (c 
     serves = tt;
     remains = λ q holds. tt;
     atomic = λ pending t late le. absurd (omega (arith, late, le));
+    slots = λ pending. slots_none a;
     leaves = λ pending. swapped_none held.stands.standing.records c a;
     nothing_pending = λ pending. tt;
     flushed = λ pending. (recovers_now store r a held pending).flushed;
@@ -270,6 +277,7 @@ module _ (store : Held) (r : Repository) (a : Told) (held : Holds store a r) (c 
       serves = tt;
       remains = λ q holds. tt;
       atomic = λ pending. atomic_still r (collected_at r c.commit) a b (recovers_at pending);
+      slots = λ pending. slots_ends a b held.kept NoFile (λ none. none) n changes;
       leaves = λ pending. swapped_still held.stands.standing.records c a b (leaves_then pending);
       nothing_pending = λ pending. tt;
       flushed = λ pending. flushed_then pending;
@@ -491,6 +499,14 @@ module _ (store : Held) (r : Repository) (a : Told) (held : Holds store a r) (c 
   pair_then = pair_stays a.held b.held held.stands.standing.records then.stands.standing.records store.slot swap.slot c (joined check.keep.kept) (same_records store r a held c runs b sync.only then.stands.standing) sync.mapping sync.prefix
       (pair_held store r a held c runs check kept stage verdict swap is)
 
+  -- no attempt is drawn
+  follows : IsNext store.slot swap.slot
+  follows = (let same : swap.slot.next_attempt ≡ store.slot.next_attempt = ap (λ (s : Slot). s.next_attempt) is.slot in record {
+    sequence = ap (λ (s : Slot). s.sequence) is.slot;
+    drawn = omega (arith, same);
+    one = omega (arith, same);
+  })
+
   module _ (d : Told) (res : Result (Unit {0}) GroundFault) (gate : TurnsGate (1 - store.index) swap.slot res b d) where
     gate_files : KeepsFiles b d
     gate_files = keeps_store b d (Only Control) (λ file same. inl same) gate.only
@@ -510,6 +526,9 @@ module _ (store : Held) (r : Repository) (a : Told) (held : Holds store a r) (c 
         (subst (λ (rs : Records). LeavesSwapped rs c b d) (same_records store r a held c runs b sync.only then.stands.standing)
         (left_at store r b then c runs swap.slot next_is (joined check.keep.kept) pair_then d res gate (sync.kept, sync.firm) (pending_then store r a held c runs b sync.only pending)))
 
+    slots : KeepsSlots a d
+    slots = slots_then a b d held.kept (sync.only.beside.others Control (λ none. none) (λ of. of)) gate.only.goes (slots_turned b d store.slot swap.slot (held_has store r b then) follows (1 - store.index) next_is res gate)
+
     flushed : NothingPending a → AllFlushed (crash_now d)
     flushed pending = elim (cases_lt a.moment d.moment) [
       | inl later ↦ (atomic pending d.moment later (omega arith)).flushed
@@ -525,6 +544,7 @@ module _ (store : Held) (r : Repository) (a : Told) (held : Holds store a r) (c 
       serves = tt;
       remains = λ q holds. tt;
       atomic = atomic;
+      slots = λ pending. slots;
       leaves = leaves;
       nothing_pending = λ pending. tt;
       flushed = flushed;
@@ -545,6 +565,7 @@ module _ (store : Held) (r : Repository) (a : Told) (held : Holds store a r) (c 
           remains_then store r b then c runs swap.slot next_is (joined check.keep.kept) pair_then d gate was.pair was.settled holds.stands.standing ∙ ap (remaining c.job.horizon pair_then.valid.kept) same,
         );
         atomic = atomic d (Ok tt) gate;
+        slots = λ pending. slots d (Ok tt) gate;
         leaves = leaves d (Ok tt) gate;
         nothing_pending = λ pending. none_pending d possible (flushed d (Ok tt) gate pending);
         flushed = flushed d (Ok tt) gate;

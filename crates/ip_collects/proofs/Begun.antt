@@ -1,4 +1,5 @@
 -- How a collection begins: a table of the branches is made durable, and its attempt is lent.
+--     cut_beside, lent_beside      no other file is touched
 --     never_lent      the attempt that comes next was never lent before
 --     begun_going, begins_collecting      what is kept of it, and what the swap asks of it
 --     may_begin, begun_step      what taking the step asks, and where it leads.      begun_tables      the tables there
@@ -8,12 +9,12 @@ use Rattle.std.proofs.Common.{◌≡◌, ◌≢◌, inl, inr, ℕ, ◌+◌, ◌-
 use Rattle.std.specs.Prelude.{All, OnOk, Result, Ok, Err, Some, IfSome, IsTrue, false, List, map, slice_get}
 use Rattle.std.proofs.lemmas.Bool.{cases_lt}
 use Rattle.ip_ground.specs.declared.names.FileName.{FileName}
-use Rattle.ip_ground.specs.declared.names.FileName.TheVariants.{Chunk, Mapping, Prefix}
+use Rattle.ip_ground.specs.declared.names.FileName.TheVariants.{Control, Chunk, Mapping, Prefix}
 use Rattle.ip_ground.specs.declared.names.GroundFault.{GroundFault}
 use Rattle.ip_ground.specs.Calls.{Lends}
 use Rattle.ip_ground.specs.Contents.{Image, Possible}
 use Rattle.ip_ground.specs.Custody.{Custody, own, lent, settled}
-use Rattle.ip_ground.specs.Told.{Told, lending, IsPossibleNow, NoFile}
+use Rattle.ip_ground.specs.Told.{Told, lending, ChangesOnly, IsPossibleNow, NoFile}
 use Rattle.ip_spec.specs.declared.event.Event.{Event}
 use Rattle.ip_spec.specs.declared.event.Event.TheVariants as Event
 use Rattle.ip_spec.specs.declared.record.Record.{Record}
@@ -44,7 +45,7 @@ use Rattle.ip_held.specs.declared.held.Held.{Held}
 use Rattle.ip_held.specs.Changes.{Changes}
 use Rattle.ip_held.specs.Collecting.{IsAbove, IsGoing, Collects}
 use Rattle.ip_held.specs.Fronts.{ComesOf, LeavesFront}
-use Rattle.ip_publish.specs.Publishing.{MayChange}
+use Rattle.ip_publish.specs.Publishing.{IsOfStore, MayChange}
 use Rattle.ip_held.specs.Placed.{IsCommitAt}
 use Rattle.ip_held.specs.StandsBy.{StandsBy}
 use Rattle.ip_held.specs.Step.{slot_behind, HasRoom, IsStep, MayTake, Took}
@@ -63,9 +64,17 @@ use Rattle.ip_held.proofs.OneCore.{has_core, run_on}
 use Rattle.ip_held.proofs.Phases.{DrawsNone}
 use Rattle.ip_held.proofs.Recovering.{held_has}
 use Rattle.ip_held.proofs.Renamed.{named_may, named_step, named_tables}
+use Rattle.ip_held.proofs.SlotLaws.{slots_on}
 use Rattle.ip_held.proofs.StepFronts.{core_in}
 use Rattle.ip_held.proofs.Stepping.{of_store}
 use Rattle.ip_held.proofs.TableRecords.{all_heads, none_below, table_may, table_same, table_fits}
+
+-- no other file is touched, whatever they are: the step was cut short, or behind it the attempt was lent, or that failed
+pub cut_beside : (n : ℕ) (a b : Told) → ChangesOnly IsOfStore a b → ChangesFor n IsOfStore a b
+cut_beside n a b only = for_only n IsOfStore a b only (keeps_store a b IsOfStore (λ file is. is) only)
+
+pub lent_beside : (n : ℕ) (a b c : Told) (res : Result (Unit {0}) GroundFault) → ChangesOnly IsOfStore a b → Lends n res b c → ChangesFor n IsOfStore a c
+lent_beside n a b c res only lends = for_behind n IsOfStore a b c only (keeps_store a b IsOfStore (λ file is. is) only) (for_more n NoFile IsOfStore b c (λ file none. absurd none) (for_lend n res b c lends))
 
 -- for one of two that are the same
 to_one : (crash : Crash) (r : Repository) → RecoversToEither crash r r → RecoversTo crash r
@@ -200,7 +209,7 @@ module _ (r : Repository) (store : Held) (number : ℕ) (start : Start) (of : Is
 
     room : HasRoom store.slot attempt (length bytes) 0
     room = subst (λ (bs : Bytes). HasRoom store.slot attempt (length bs) 0) (sym spells)
-        (record { drawn = omega arith; attempts = (let low = is.attempt in omega (arith, low)); ends = is.small; sequence = is.sequence; few = omega arith })
+        (record { drawn = omega arith; one = omega arith; attempts = (let low = is.attempt in omega (arith, low)); ends = is.small; sequence = is.sequence; few = omega arith })
 
     pub may_begin : MayTake store bytes (record { slot = start.slot; entry = Entry.Nothing })
     may_begin = named_may r store of table (table_may r) (table_fits store r of) tt bytes spells start.slot attempt to room drawn above Entry.Nothing enters tt
@@ -235,6 +244,7 @@ module _ (r : Repository) (store : Held) (number : ℕ) (start : Start) (of : Is
       holds = λ begins. absurd begins;
       lent = λ begins. absurd begins;
       fresh = fresh;
+      slots = took.slots;
       recovers = λ pending t after le. to_one (crash_at b t) r (took.changes.atomic pending t after le);
       nothing_pending = λ pending begins. absurd begins;
       flushed = took.changes.flushed;
@@ -341,6 +351,7 @@ module _ (r : Repository) (store : Held) (number : ℕ) (start : Start) (of : Is
           holds = λ begins. holds_apart here r b holds idle n other below NoFile apart c beside;
           lent = is_lent;
           fresh = fresh;
+          slots = λ pending. slots_on a b c held.kept possible took.changes.only.goes lends.goes (only.others Control (λ none. none) (λ of. of)) (took.slots pending);
           recovers = recovers;
           nothing_pending = λ pending begins. pending_apart here r b holds idle n other below NoFile apart c beside (pending_here pending);
           flushed = λ pending. flushed_apart here r b holds idle n other below NoFile apart c beside (pending_here pending);

@@ -44,6 +44,7 @@ use Rattle.ip_held.specs.Work.{state_at}
 use Rattle.ip_held.proofs.Apart.{beside_for, for_only, for_before, holds_apart, list_apart, recovers_apart, pending_apart, flushed_apart, leaves_apart, space_apart}
 use Rattle.ip_held.proofs.KeptFiles.{keeps_itself, keeps_on, keeps_ended, keeps_swept}
 use Rattle.ip_held.proofs.Machine.{asks_none}
+use Rattle.ip_held.proofs.SlotLaws.{slots_for}
 use Rattle.ip_collects.proofs.Swept.{foreign_on}
 use Rattle.ip_held.proofs.Clearing.{zero_is}
 
@@ -259,6 +260,7 @@ module _ (store : Held) (r : Repository) (a : Told) (holds : Holds store a r) (c
       stays = stays;
       gone = gone;
       all_but = all_but;
+      slots = λ pending. slots_for a b holds.kept these (λ no. no) n changes;
       recovers = λ pending. recovers_apart idle r a held_idle refl n other below these apart b (beside_for n these a b changes) pending;
       nothing_pending = λ pending. pending_apart idle r a held_idle refl n other below these apart b (beside_for n these a b changes) pending;
       flushed = λ pending. flushed_apart idle r a held_idle refl n other below these apart b (beside_for n these a b changes) pending;

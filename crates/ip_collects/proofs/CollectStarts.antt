@@ -4,6 +4,7 @@ use Rattle.std.proofs.Common.{◌≡◌, ◌⊎◌, inl, inr, ℕ, ◌+◌, ◌-
 use Rattle.std.specs.Prelude.{Bool, Result, Ok, Err, IsErrOf, IsTrue}
 use Rattle.ip_base.specs.declared.limit.Limit.{Limit}
 use Rattle.ip_ground.specs.Told.{Told}
+use Rattle.ip_ground.proofs.Spans.{only_nowhere}
 use Rattle.ip_spec.specs.declared.reply.Reply.{Reply}
 use Rattle.ip_spec.specs.Record.{Hash, spelling}
 use Rattle.ip_spec.specs.Repository.{Repository, is_retained, name_at}
@@ -18,11 +19,15 @@ use Rattle.ip_held.specs.Fronts.{LeavesFront}
 use Rattle.ip_held.specs.Answers.{met_nothing}
 use Rattle.ip_held.specs.Clear.{KeepsClear}
 use Rattle.ip_held.specs.Held.{IsOf, Holds, image_records}
+use Rattle.ip_held.specs.Sweeping.{ChangesFor}
 use Rattle.ip_held.specs.TableRecord.{table_of}
 use Rattle.ip_held.specs.Tie.{appending}
 use Rattle.ip_held.specs.Trees.{RecordsStay}
 use Rattle.ip_collects.specs.Starting.{begun, new_collection, AnswersStart, BeginsCollecting, Begins, IsBegun, IsFree, IsStart, LimitsStart, RefusesStart, StartsCollection}
+use Rattle.ip_publish.specs.Publishing.{IsOfStore}
+use Rattle.ip_held.proofs.Apart.{for_only}
 use Rattle.ip_held.proofs.CoreAppends.{tied_behind}
+use Rattle.ip_held.proofs.KeptFiles.{keeps_itself}
 use Rattle.ip_held.proofs.StepFronts.{leaves_none}
 use Rattle.ip_collects.proofs.Begun.{begins_collecting, begun_going, begun_tables}
 use Rattle.ip_collects.proofs.BeginTied.{refused_tied, started_tied}
@@ -48,6 +53,7 @@ module _ (tells : Bool) (store : Held) (number : ℕ) (p : Repository) (of : IsO
       begun = λ r is cut. (let same : fault ≡ CollectFault.Ground = cc (cut) in absurd (subst (RefusesStart r number store) same (refusal r is)));
       wanted = λ r is want. (let same : fault ≡ CollectFault.Memory = cc (want) in subst (RefusesStart r number store) same (refusal r is));
       limits = λ r is. refused_limits r store number fault (refusal r is);
+      beside = λ told. for_only store.slot.next_attempt IsOfStore a a (only_nowhere a IsOfStore) (keeps_itself a);
       begins = λ told begins. absurd (not_begun begins);
       any_moment = λ told r held. starts_none r store store a fault not_begun held;
       stay = λ told begins. absurd (not_begun begins);
@@ -59,12 +65,16 @@ module _ (tells : Bool) (store : Held) (number : ℕ) (p : Repository) (of : IsO
   -- ---- behind the plan
 
   module _ (start : Start) (planned : (r : Repository) → IsOf store r → IsTrue (is_retained r number) → IsStart r store number start) (free : (r : Repository) → IsOf store r → IsFree r number store) (b : Told)
-      (fronts : IsTrue tells → (r : Repository) (n : ℕ) (held : Holds store a r) → IsStart r store n start → NothingPending a → LeavesFront store held.stands.standing.records (appending ((store.slot.end, table_of r) ∷ [])) a b) where
+      (fronts : IsTrue tells → (r : Repository) (n : ℕ) (held : Holds store a r) → IsStart r store n start → NothingPending a → LeavesFront store held.stands.standing.records (appending ((store.slot.end, table_of r) ∷ [])) a b)
+      (touched : IsTrue tells → ChangesFor start.job.attempt IsOfStore a b) where
     kept : (r : Repository) → IsOf store r → IsTrue (is_retained r number)
     kept r is = same_retained store p r number of is retained
 
     plan : (r : Repository) → IsOf store r → IsStart r store number start
     plan r is = planned r is (kept r is)
+
+    beside : IsTrue tells → ChangesFor store.slot.next_attempt IsOfStore a b
+    beside told = subst (λ (n : ℕ). ChangesFor n IsOfStore a b) (plan p of).job.attempt (touched told)
 
     idle : store.collection ≡ None
     idle = (free p of).0
@@ -93,6 +103,7 @@ module _ (tells : Bool) (store : Held) (number : ℕ) (p : Repository) (of : IsO
       begun = λ r is cut. (free r is, (plan r is).attempt);
       wanted = λ r is want. absurd (cc (want));
       limits = enough (Err CollectFault.Ground) (λ limit e. absurd (cc (e)));
+      beside = beside;
       begins = λ told begins. absurd begins;
       any_moment = λ told r held. starts_with r start.job.attempt store.slot.next_attempt (Err CollectFault.Ground) (Err CollectFault.Ground) now now a b (sym (plan r held.tables).job.attempt) (λ begins. begins) (λ begins now. now) refl (moment told r number held (plan r held.tables));
       stay = λ told begins. absurd begins;
@@ -133,6 +144,7 @@ module _ (tells : Bool) (store : Held) (number : ℕ) (p : Repository) (of : IsO
         begun = λ r is cut. absurd (cc (cut));
         wanted = λ r is want. absurd (cc (want));
         limits = enough (Err CollectFault.Start) (λ limit e. absurd (cc (e)));
+        beside = beside;
         begins = λ told begins. begins_at store.collection told;
         any_moment = starts;
         stay = λ told begins. stays_at store.collection told;
@@ -164,6 +176,7 @@ module _ (tells : Bool) (store : Held) (number : ℕ) (p : Repository) (of : IsO
         begun = λ r is cut. absurd (cc (cut));
         wanted = λ r is want. absurd (cc (want));
         limits = enough (Ok name) (λ limit e. absurd (cc (e)));
+        beside = beside;
         begins = λ told begins. begins_at some told;
         any_moment = starts;
         stay = λ told begins. stays_at some told;

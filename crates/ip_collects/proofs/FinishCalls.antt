@@ -3,7 +3,7 @@
 --     end_goes, end_loud, end_finishes, end_works      the child has ended
 --     goes_idle, goes_wait, goes_runs      nothing was heard of its end
 --     goes_cut, cut_finishes      it was heard, and its attempt could not be settled
---     goes_on, on_finishes, on_works, on_owns, on_untouched, on_counts      it was, whether it was heard now or before
+--     goes_on, on_finishes, on_bounded, on_works, on_owns, on_untouched, on_counts      it was, whether it was heard now or before
 use Rattle.std.proofs.Common.{◌≡◌, ◌≢◌, ◌≤◌, ◌⊎◌, inl, inr, ℕ, true, false, Some, None, Option, refl, sym, ◌∙◌, ap, subst, arith}
 use Rattle.std.specs.Prelude.{Result, Ok, Err, OnErr, IfSome, is_some}
 use Rattle.ip_base.specs.declared.exit.Exit.{Exit}
@@ -35,7 +35,7 @@ use Rattle.ip_held.specs.declared.held.Held.{Held}
 use Rattle.ip_held.specs.Collecting.{Collects, IsOfChild, phase_of, child_of}
 use Rattle.ip_collects.specs.Ending.{Ends, EndsBy, FitsEnd, Goes, GoesOnAs, IsHeardIn, Listens, MayBeHeard, after_by, after_with}
 use Rattle.ip_collects.specs.Judging.{is_zero}
-use Rattle.ip_collects.specs.Finishing.{Concludes, CountsFinish, FinishesAs, FinishesBy, HasAnswer, IsAsked, IsCollected, IsKept, IsOver, IsQuiet, KeepsCollection, LookReplies, MayTouch, Slices, SlotBy, TurnsBy, WorksStay, conditions_by, difference_in, looked_at, looked_of, met_by_finish, repository_after}
+use Rattle.ip_collects.specs.Finishing.{Concludes, CountsFinish, FinishesAs, FinishesBy, HasAnswer, IsAsked, IsCollected, IsKept, IsOver, IsQuiet, KeepsCollection, LookReplies, LooksWithin, MayTouch, Slices, SlotBy, TurnsBy, WorksStay, conditions_by, difference_in, looked_at, looked_of, met_by_finish, repository_after}
 use Rattle.ip_held.specs.Held.{IsOf, Holds, OwnsPair, image_records}
 use Rattle.ip_held.specs.Sweeping.{EndsFor}
 use Rattle.ip_held.specs.Work.{IsLawful, state_at}
@@ -48,6 +48,7 @@ use Rattle.ip_collects.proofs.FinishTurns.{IsEnding, each_look, met_heard, met_o
 use Rattle.ip_held.proofs.Going.{phase_here}
 use Rattle.ip_held.proofs.KeptFiles.{keeps_on, keeps_store, nothing_else}
 use Rattle.ip_held.proofs.LeftImages.{swapped_front, swapped_still}
+use Rattle.ip_held.proofs.SlotLaws.{slots_still, slots_then}
 use Rattle.ip_collects.proofs.WorksRemain.{works_remain}
 
 -- ---- an exit that is kept, and none
@@ -155,9 +156,11 @@ module _ (store : Held) (c : Collection) (runs : store.collection ≡ Some c) (r
     answered = λ r of command asked. subst (λ (o : Option Collection). LookReplies result (Concludes r o command (conditions_by said result) now)) (sym runs) (concludes r of command asked);
     runs = (λ none. (let both = sym none ∙ runs in absurd (cc (both))), λ is. absurd (no_quiet {X = ⊥} reaped.exit c left (Err FinishFault.Idle) (subst (FitsEnd reaped.exit c left) is ends.fits) tt));
     quiet = λ is. no_quiet reaped.exit c left result ends.fits is;
+    none = ends.none;
     ended = inr (reaped, refl);
     wanted = λ is other heard. subst (λ (x : Reaped). is_zero x.exit) (same_reaped reaped other heard) (subst (FitsEnd reaped.exit c left) is ends.fits);
     through = ends.through;
+    sequence = ends.sequence;
     held = child_behind reaped.exit reaped c left result now.collection kept ends.fits ends.goes_on;
     goes_on = λ is d other here heard.
         subst (λ (x : Collection). KeepsCollection x other now.collection) (same_running store.collection c d runs here)
@@ -253,9 +256,11 @@ module _ (store : Held) (most : ℕ) where
     };
     runs = (λ is. refl, λ is. none);
     quiet = λ is. refl;
+    none = λ _. refl;
     ended = inl tt;
     wanted = λ is. absurd (cc (is));
     through = λ is. absurd (cc (is));
+    sequence = λ is. absurd (cc (is));
     held = refl;
     goes_on = λ is. absurd is;
     sliced = λ d here. tt;
@@ -288,9 +293,11 @@ module _ (store : Held) (most : ℕ) where
       };
       runs = (λ is. (let both = sym is ∙ runs in absurd (cc (both))), λ is. absurd (cc (is)));
       quiet = λ is. refl;
+      none = λ _. refl;
       ended = inl tt;
       wanted = λ is. absurd (cc (is));
       through = λ is. absurd (cc (is));
+      sequence = λ is. absurd (cc (is));
       held = refl;
       goes_on = λ is. absurd is;
       sliced = λ d here. tt;
@@ -313,9 +320,11 @@ module _ (store : Held) (most : ℕ) where
       };
       runs = (λ is. (let both = sym is ∙ runs in absurd (cc (both))), λ is. absurd (cc (is)));
       quiet = λ is. refl;
+      none = λ _. refl;
       ended = inl tt;
       wanted = λ is. absurd (cc (is));
       through = λ is. absurd (cc (is));
+      sequence = λ is. absurd (cc (is));
       held = refl;
       goes_on = λ is. absurd is;
       sliced = λ d here. tt;
@@ -363,9 +372,11 @@ module _ (store : Held) (c : Collection) (runs : store.collection ≡ Some c) (r
     answered = λ r of command asked. tt;
     runs = (λ is. (let both = sym is ∙ runs in absurd (cc (both))), λ is. absurd (cc (is)));
     quiet = λ is. absurd is;
+    none = λ _. refl;
     ended = inr (reaped, refl);
     wanted = λ is. absurd (cc (is));
     through = λ is. absurd (cc (is));
+    sequence = λ is. absurd (cc (is));
     held = refl;
     goes_on = λ is. absurd is;
     sliced = λ d here. tt;
@@ -419,9 +430,11 @@ module _ (store : Held) (c : Collection) (runs : store.collection ≡ Some c) (r
               }) (goes.answered r (of_mid r of) command asked));
           runs = (λ none. (let both = sym none ∙ runs in absurd (cc (both))), λ is. absurd (loud (subst IsQuiet (sym is) tt)));
           quiet = λ is. absurd (loud is);
+          none = goes.none;
           ended = inr (reaped, refl);
           wanted = goes.wanted;
           through = goes.through;
+          sequence = goes.sequence;
           held = goes.held;
           goes_on = λ is d other here heard.
               subst (λ (x : Collection). KeepsCollection x other now.collection) (same_running store.collection c d runs here)
@@ -447,6 +460,9 @@ module _ (store : Held) (c : Collection) (runs : store.collection ≡ Some c) (r
       span : Spared r records a b
       span = spared_by (Over.idle store r a held c runs) r a (Over.held_idle store r a held c runs) refl n (Over.other store r a held c runs) (Over.below store r a held c runs) NoFile (λ file none. absurd none) b listens.only.beside
 
+      pub on_bounded : (heard : Held) (held_b : Holds heard b r) → LooksWithin most held_b.stands.standing.records (record c { exit = Some reaped }) → LooksWithin most held.stands.standing.records c
+      on_bounded heard held_b is = subst (λ (rs : Records). LooksWithin most rs c) (span.same held_b.stands.standing) is
+
       same_repository : (command : Command) (met : Conditions) → IsEnding command → met.told.child ≡ Child.Ended reaped → repository_after r known command met ≡ repository_after r c command met
       same_repository command met is ended = by c.exit may
         where
@@ -464,6 +480,7 @@ module _ (store : Held) (c : Collection) (runs : store.collection ≡ Some c) (r
           gone = is.gone;
           all_but = is.all_but;
           atomic = λ pending. atomic_front r after a b d is.only.beside.goes (span.recovers pending) (is.atomic (span.pending pending));
+          slots = λ pending. slots_then a b d span.kept span.control is.only.beside.goes (is.slots (span.pending pending));
           recovers = λ pending. is.recovers (span.pending pending);
           nothing_pending = λ pending. is.nothing_pending (span.pending pending);
           flushed = λ pending. is.flushed (span.pending pending);
@@ -539,6 +556,7 @@ module _ (store : Held) (c : Collection) (runs : store.collection ≡ Some c) (r
         gone = λ has. absurd has;
         all_but = λ has. absurd has;
         atomic = λ pending. atomic_still r (repository_after r c command (met_of (Child.Ended reaped) (Err FinishFault.Ground) 0 None)) a b (cut_span.recovers pending);
+        slots = λ pending. slots_still a b cut_span.kept cut_span.control;
         recovers = λ pending has. absurd has;
         nothing_pending = λ pending has. absurd has;
         flushed = cut_span.flushed;

@@ -122,6 +122,7 @@ module _ (store : Held) (c : Collection) (reaped : Reaped) (most : ℕ) (check :
   ends_open bytes fits slices whole = record {
     fits = fits;
     through = λ e. absurd (cc e);
+    sequence = λ e. absurd (cc e);
     none = λ no. refl;
     goes_on = (check, ap (λ (s : Held). s.collection) is, looked);
     tables = λ r of has. tables r of;
@@ -132,10 +133,11 @@ module _ (store : Held) (c : Collection) (reaped : Reaped) (most : ℕ) (check :
     unswept = ap (λ (s : Held). s.unswept) is;
   }
 
-  pub ends_cut : (fault : FinishFault) → FitsExit reaped.exit (Err fault) → (fault ≡ FinishFault.Memory → FindsNone mid.collection) → Ends reaped.exit most c (Err fault) 0 store mid
-  ends_cut FinishFault.Ground fits found = record {
+  pub ends_cut : (fault : FinishFault) → FitsExit reaped.exit (Err fault) → (fault ≡ FinishFault.Memory → FindsNone mid.collection) → (fault ≡ FinishFault.Memory → ¬ IsThrough mid.collection) → Ends reaped.exit most c (Err fault) 0 store mid
+  ends_cut FinishFault.Ground fits found unsaid = record {
     fits = fits.0;
     through = λ e. absurd (cc e);
+    sequence = λ e. absurd (cc e);
     none = λ no. refl;
     goes_on = (check, ap (λ (s : Held). s.collection) is, looked);
     tables = λ r of has. absurd has;
@@ -145,9 +147,10 @@ module _ (store : Held) (c : Collection) (reaped : Reaped) (most : ℕ) (check :
     slot = ap (λ (s : Held). s.slot) is;
     unswept = ap (λ (s : Held). s.unswept) is;
   }
-  ends_cut (FinishFault.Damaged at) fits found = record {
+  ends_cut (FinishFault.Damaged at) fits found unsaid = record {
     fits = fits.0;
     through = λ e. absurd (cc e);
+    sequence = λ e. absurd (cc e);
     none = λ no. refl;
     goes_on = (check, ap (λ (s : Held). s.collection) is, looked);
     tables = λ r of has. absurd has;
@@ -157,9 +160,10 @@ module _ (store : Held) (c : Collection) (reaped : Reaped) (most : ℕ) (check :
     slot = ap (λ (s : Held). s.slot) is;
     unswept = ap (λ (s : Held). s.unswept) is;
   }
-  ends_cut FinishFault.Memory fits found = record {
+  ends_cut FinishFault.Memory fits found unsaid = record {
     fits = fits.0;
     through = λ e. found refl;
+    sequence = λ e through. absurd (unsaid refl through);
     none = λ no. refl;
     goes_on = (check, ap (λ (s : Held). s.collection) is, looked);
     tables = λ r of has. tables r of;
@@ -169,10 +173,10 @@ module _ (store : Held) (c : Collection) (reaped : Reaped) (most : ℕ) (check :
     slot = ap (λ (s : Held). s.slot) is;
     unswept = ap (λ (s : Held). s.unswept) is;
   }
-  ends_cut FinishFault.Idle fits found = absurd fits.1
-  ends_cut FinishFault.Wait fits found = absurd fits.1
-  ends_cut (FinishFault.Rejected rejection) fits found = absurd fits.1
-  ends_cut (FinishFault.Limit limit) fits found = absurd fits.1
+  ends_cut FinishFault.Idle fits found unsaid = absurd fits.1
+  ends_cut FinishFault.Wait fits found unsaid = absurd fits.1
+  ends_cut (FinishFault.Rejected rejection) fits found unsaid = absurd fits.1
+  ends_cut (FinishFault.Limit limit) fits found unsaid = absurd fits.1
 
   -- a sweep follows
   pub ends_rejected : (rejection : Rejection) (left : ℕ) (now : Held) → now ≡ record (with_check store c check) { collection = None; unswept = unswept_now store left } → FitsExit reaped.exit (Ok (Verdict.Rejected rejection))
@@ -180,6 +184,7 @@ module _ (store : Held) (c : Collection) (reaped : Reaped) (most : ℕ) (check :
   ends_rejected rejection left now now_is fits = subst (λ (s : Held). Ends reaped.exit most c (Err (FinishFault.Rejected rejection)) left store s) (sym now_is) (record {
     fits = fits;
     through = λ e. absurd (cc e);
+    sequence = λ e. absurd (cc e);
     none = λ no. absurd (no tt);
     goes_on = refl;
     tables = λ r of has. over_tables store r (unswept_now store left) (unswept_is store r left of) of;
@@ -192,10 +197,11 @@ module _ (store : Held) (c : Collection) (reaped : Reaped) (most : ℕ) (check :
 
   module _ (zero : is_zero reaped.exit) (now : Held) where
     -- it was asked for with some tables
-    pub ends_refused : (q : Repository) → IsOf store q → (fault : FinishFault) → IsSwapFault fault → IsThrough mid.collection → ((r : Repository) → IsOf mid r → Accepts (Err fault) r c mid now) → Ends reaped.exit most c (Err fault) 0 store now
-    ends_refused q of FinishFault.Ground may through accepts = (let same = accepts q (tables q of) ∙ is in record {
+    pub ends_refused : (q : Repository) → IsOf store q → (fault : FinishFault) → IsSwapFault fault → IsThrough mid.collection → (fault ≡ FinishFault.Memory → mid.slot.sequence < OFFSET_MAX) → ((r : Repository) → IsOf mid r → Accepts (Err fault) r c mid now) → Ends reaped.exit most c (Err fault) 0 store now
+    ends_refused q of FinishFault.Ground may through less accepts = (let same = accepts q (tables q of) ∙ is in record {
       fits = zero;
       through = λ e. absurd (cc e);
+      sequence = λ e. absurd (cc e);
       none = λ no. refl;
       goes_on = (check, ap (λ (s : Held). s.collection) same, looked);
       tables = λ r of has. absurd has;
@@ -205,9 +211,10 @@ module _ (store : Held) (c : Collection) (reaped : Reaped) (most : ℕ) (check :
       slot = ap (λ (s : Held). s.slot) same;
       unswept = ap (λ (s : Held). s.unswept) same;
     })
-    ends_refused q of (FinishFault.Damaged at) may through accepts = (let same = accepts q (tables q of) ∙ is in record {
+    ends_refused q of (FinishFault.Damaged at) may through less accepts = (let same = accepts q (tables q of) ∙ is in record {
       fits = zero;
       through = λ e. absurd (cc e);
+      sequence = λ e. absurd (cc e);
       none = λ no. refl;
       goes_on = (check, ap (λ (s : Held). s.collection) same, looked);
       tables = λ r of has. absurd has;
@@ -217,9 +224,10 @@ module _ (store : Held) (c : Collection) (reaped : Reaped) (most : ℕ) (check :
       slot = ap (λ (s : Held). s.slot) same;
       unswept = ap (λ (s : Held). s.unswept) same;
     })
-    ends_refused q of FinishFault.Memory may through accepts = (let same = accepts q (tables q of) ∙ is in record {
+    ends_refused q of FinishFault.Memory may through less accepts = (let same = accepts q (tables q of) ∙ is in record {
       fits = zero;
       through = λ e. subst (λ (s : Held). FindsNone s.collection) (sym (accepts q (tables q of))) (none_through mid.collection through);
+      sequence = λ e stays. subst (λ (s : Held). s.slot.sequence < OFFSET_MAX) is (less refl);
       none = λ no. refl;
       goes_on = (check, ap (λ (s : Held). s.collection) same, looked);
       tables = λ p there has. subst (λ (s : Held). IsOf s p) (sym (accepts q (tables q of))) (tables p there);
@@ -229,12 +237,13 @@ module _ (store : Held) (c : Collection) (reaped : Reaped) (most : ℕ) (check :
       slot = ap (λ (s : Held). s.slot) same;
       unswept = ap (λ (s : Held). s.unswept) same;
     })
-    ends_refused q of (FinishFault.Limit Limit.Sequence) may through accepts =
+    ends_refused q of (FinishFault.Limit Limit.Sequence) may through less accepts =
         let got = accepts q (tables q of) in
         let same : now ≡ over store store.unswept = got.0 ∙ ap (λ (s : Held). record s { collection = None }) is in
         record {
           fits = (zero, refl);
           through = λ e. absurd (cc e);
+          sequence = λ e. absurd (cc e);
           none = λ no. refl;
           goes_on = ap (λ (s : Held). s.collection) same;
           tables = λ p there has. subst (λ (s : Held). IsOf s p) (sym same) (over_tables store p store.unswept there.unswept there);
@@ -244,16 +253,17 @@ module _ (store : Held) (c : Collection) (reaped : Reaped) (most : ℕ) (check :
           slot = ap (λ (s : Held). s.slot) same;
           unswept = ap (λ (s : Held). s.unswept) same;
         }
-    ends_refused q of (FinishFault.Limit _) may through accepts = absurd may
-    ends_refused q of FinishFault.Idle may through accepts = absurd may
-    ends_refused q of FinishFault.Wait may through accepts = absurd may
-    ends_refused q of (FinishFault.Rejected rejection) may through accepts = absurd may
+    ends_refused q of (FinishFault.Limit _) may through less accepts = absurd may
+    ends_refused q of FinishFault.Idle may through less accepts = absurd may
+    ends_refused q of FinishFault.Wait may through less accepts = absurd may
+    ends_refused q of (FinishFault.Rejected rejection) may through less accepts = absurd may
 
     pub ends_collected : (q : Repository) → IsOf store q → ((r : Repository) → IsOf mid r → Accepts (Ok tt) r c mid now) → (left : ℕ) (swept : Held) → swept ≡ record now { unswept = if left == 0 then swept_to now.slot else now.unswept }
         → Ends reaped.exit most c (Ok (Looked.Collected (record { floor = now.slot.floor; left = left }))) left store swept
     ends_collected q of accepts left swept swept_is = subst (λ (s : Held). Ends reaped.exit most c (Ok (Looked.Collected (record { floor = now.slot.floor; left = left }))) left store s) (sym swept_is) (record {
       fits = (zero, ap (λ (n : ℕ). record { floor = n; left = left }) (ap (λ (s : Slot). s.floor) slot_is));
       through = λ e. absurd (cc e);
+      sequence = λ e. absurd (cc e);
       none = λ no. absurd (no tt);
       goes_on = got.1;
       tables = λ p there has. (let one = accepts p (tables p there) in

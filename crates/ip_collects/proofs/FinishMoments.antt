@@ -23,9 +23,10 @@ use Rattle.ip_image.specs.declared.slot.Slot.{Slot}
 use Rattle.ip_image.specs.Collected.{remaining}
 use Rattle.ip_image.specs.Collection.{Pair, Found, IsValid, IsKept as AreKept, first_difference, found_in}
 use Rattle.ip_image.specs.Headline.{RecoversTo, IsAtomic}
-use Rattle.ip_image.specs.Pending.{crash_now, NothingPending}
+use Rattle.ip_image.specs.Pending.{HasLive, crash_now, NothingPending}
 use Rattle.ip_image.specs.Standing.{Standing}
 use Rattle.ip_image.proofs.CoreTies.{image_rises, some_valid, valid_since}
+use Rattle.ip_image.proofs.HeadlineLaws.{one_slot}
 use Rattle.ip_image.proofs.PairLaws.{one_valid}
 use Rattle.ip_check.specs.Checking.{IsVerdict}
 use Rattle.ip_check.specs.CheckView.{CheckView}
@@ -42,6 +43,7 @@ use Rattle.ip_collects.specs.Finishing.{HasAnswer, IsCollected, IsSweptBehind, I
 use Rattle.ip_collects.specs.Judging.{IsCut, TellsVerdict, with_check}
 use Rattle.ip_held.specs.StandsBy.{LeavesSwapped}
 use Rattle.ip_held.specs.Held.{Holds}
+use Rattle.ip_held.specs.Slots.{IsNext, IsSlotFrom, KeepsSlots}
 use Rattle.ip_collects.specs.Swapping.{Accepts, AcceptsAs, IsSwapFault, IsTurnedDown}
 use Rattle.ip_held.specs.Sweeping.{AllBut, IsApart, IsSwept, ChangesBeside, EndsFor, KeepsFiles, SweepsFiles, swept_to}
 use Rattle.ip_held.proofs.Apart.{beside_only, holds_apart}
@@ -53,6 +55,7 @@ use Rattle.ip_collects.proofs.Ended.{ends_more, ends_on, ends_only, ends_stays}
 use Rattle.ip_held.proofs.KeptFiles.{keeps_on, keeps_store, keeps_swept}
 use Rattle.ip_held.proofs.LeftImages.{swapped_behind, swapped_front, swapped_still}
 use Rattle.ip_held.proofs.Recovering.{held_has, recovers_now}
+use Rattle.ip_held.proofs.SlotLaws.{slots_behind, slots_still, slots_then}
 use Rattle.ip_collects.proofs.Swept.{foreign_on}
 
 only_sequence : (limit : Limit) → IsSwapFault (FinishFault.Limit limit) → limit ≡ Limit.Sequence
@@ -70,7 +73,7 @@ module _ (records : Records) (r : Repository) (c : Collection) (check : Option C
   accepts_checked FinishFault.Memory store now is = is
 
   pub accepts_as : (result : Result (Unit {0}) FinishFault) (store : Held) (a b : Told) → AcceptsAs records r (record c { check = check }) result store a b → AcceptsAs records r c result store a b
-  accepts_as result store a b is = record { only = is.only; files = is.files; holds = is.holds; serves = is.serves; remains = is.remains; atomic = is.atomic; leaves = is.leaves; nothing_pending = is.nothing_pending; flushed = is.flushed }
+  accepts_as result store a b is = record { only = is.only; files = is.files; holds = is.holds; serves = is.serves; remains = is.remains; atomic = is.atomic; slots = is.slots; leaves = is.leaves; nothing_pending = is.nothing_pending; flushed = is.flushed }
 
 module _ (store : Held) (r : Repository) (a : Told) (held : Holds store a r) (c : Collection) (runs : store.collection ≡ Some c) (reaped : Reaped) (kept : c.exit ≡ Some reaped) where
   abbrev A : Standing a.held
@@ -135,6 +138,7 @@ module _ (store : Held) (r : Repository) (a : Told) (held : Holds store a r) (c 
         gone = gone;
         all_but = all_but;
         atomic = λ pending. atomic_still r (after_with result truth r c) a b (span.recovers pending);
+        slots = λ pending. slots_still a b span.kept span.control;
         recovers = λ pending has. subst (RecoversTo (crash_now b)) (sym (same has)) (recovers_now now r b (holds has) (span.pending pending));
         nothing_pending = λ pending has. span.pending pending;
         flushed = span.flushed;
@@ -237,6 +241,9 @@ module _ (store : Held) (r : Repository) (a : Told) (held : Holds store a r) (c 
       leaves_begun : (d : Told) → NothingPending a → KeepsPast b d → LeavesSwapped records_b c b d → LeavesSwapped records c a d
       leaves_begun d pending goes is = swapped_front records c a b d goes span_still.live (span_still.leaves pending) (subst (λ (rs : Records). LeavesSwapped rs c b d) same_b is)
 
+      slots_begun : (d : Told) → KeepsPast b d → KeepsSlots b d → KeepsSlots a d
+      slots_begun d goes is = slots_then a b d span_still.kept span_still.control goes is
+
       -- what the swap asks
       pub asked_of : IsVerdict (until c.job.end records_b) c.job (found_in b.held n) None
       asked_of = verdict_on held_b.stands.standing None v
@@ -266,6 +273,7 @@ module _ (store : Held) (r : Repository) (a : Told) (held : Holds store a r) (c 
                 gone = λ swept. absurd swept;
                 all_but = λ swept. absurd swept;
                 atomic = λ pending. subst (IsAtomic a d r) (sym after) (atomic_front r (collected_at r c.commit) a b d is.only.beside.goes (span_still.recovers pending) (is.atomic (span_still.pending pending)));
+                slots = λ pending. slots_begun d is.only.beside.goes (is.slots (span_still.pending pending));
                 recovers = λ pending has. absurd has;
                 nothing_pending = λ pending has. absurd has;
                 flushed = λ pending. is.flushed (span_still.pending pending);
@@ -357,6 +365,22 @@ module _ (store : Held) (r : Repository) (a : Told) (held : Holds store a r) (c 
               let by = span_swept.leaves (is.nothing_pending (span_still.pending pending)) now.slot (held_has now q d is.holds) t late le image possible in
               (list_then.0, list_then.1, record { repository = by.repository; stands = by.stands; list = by.list ∙ list_then.2; low = by.low ∙ ap (λ (s : Slot). s.horizon) slot_is }))
 
+          -- the slot of the swap comes next
+          follows : (s : Slot) → HasLive s a.held → IsSlotFrom s d.held
+          follows s has = inr (
+            now.slot,
+            held_has now q d is.holds,
+            subst (λ (u : Slot). IsNext u now.slot) (one_slot store.slot s a.held (held_has store r a held) has)
+                (let same : now.slot.next_attempt ≡ store.slot.next_attempt = ap (λ (u : Slot). u.next_attempt) slot_is ∙ ap (λ (x : Held). x.slot.next_attempt) mid_is in record {
+                  sequence = ap (λ (u : Slot). u.sequence) slot_is ∙ ap (λ (x : Held). x.slot.sequence + 1) mid_is;
+                  drawn = omega (arith, same);
+                  one = omega (arith, same);
+                }),
+          )
+
+          slots_swept : NothingPending a → KeepsSlots a f
+          slots_swept pending = slots_behind a d f is.holds.kept follows sweeps.only.goes span_swept.control (slots_begun d is.only.beside.goes (is.slots (span_still.pending pending)))
+
           pending_then : NothingPending a → NothingPending f
           pending_then pending = span_swept.pending (is.nothing_pending (span_still.pending pending))
 
@@ -387,6 +411,7 @@ module _ (store : Held) (r : Repository) (a : Told) (held : Holds store a r) (c 
                 all_but = λ has few. (let those = sweeps.all_but few in (those.0, those.1, λ file this own. those.2 file (from_old file this) (theirs_then file own)));
                 atomic = λ pending. atomic_front r q a b f (goes_on b d f is.only.beside.goes sweeps.only.goes) (span_still.recovers pending)
                     (atomic_behind r q b d f sweeps.only.goes (is.atomic (span_still.pending pending)) (span_swept.recovers (is.nothing_pending (span_still.pending pending))));
+                slots = slots_swept;
                 recovers = λ pending has. recovers_now done q f done_holds (pending_then pending);
                 nothing_pending = λ pending has. pending_then pending;
                 flushed = λ pending. span_swept.flushed (is.nothing_pending (span_still.pending pending));

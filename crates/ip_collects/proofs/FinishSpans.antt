@@ -1,15 +1,16 @@
 -- What a collection that is finished does to what is told, span by span.
 --     listens_at      the end of a child is heard.      listens_none      it was known
---     Spared r records a b      a span over which the repository stays.      spared_by      of a change of files apart from the store
+--     Spared r records a b      a span over which the repository stays, and the control file.      spared_by      of a change of files apart from the store
 --     either_less      what a crash may leave of an earlier moment.      atomic_front, atomic_behind      a span before and behind one that turns from one repository to the next
 use Rattle.std.proofs.Common.{◌≡◌, ◌≢◌, inl, inr, ℕ, ◌<◌, ◌≤◌, None, subst}
 use Rattle.std.specs.Prelude.{Result, Ok, Err}
 use Rattle.std.proofs.lemmas.Bool.{cases_lt}
 use Rattle.ip_ground.specs.declared.names.FileName.{FileName}
+use Rattle.ip_ground.specs.declared.names.FileName.TheVariants.{Control}
 use Rattle.ip_ground.specs.declared.names.GroundFault.{GroundFault}
 use Rattle.ip_ground.specs.Calls.{Settles}
 use Rattle.ip_ground.specs.Contents.{Content}
-use Rattle.ip_ground.specs.Told.{Told, KeepsPast, NoFile}
+use Rattle.ip_ground.specs.Told.{Told, IsSynced, KeepsFile, KeepsPast, NoFile}
 use Rattle.ip_ground.proofs.Spans.{only_nowhere}
 use Rattle.ip_spec.specs.Repository.{Repository}
 use Rattle.ip_spec.specs.TreeAt.{Records}
@@ -44,6 +45,8 @@ listens_none n a = record { only = ends_only n NoFile a a (only_nowhere a NoFile
 
 pub record Spared (r : Repository) (records : Records) (a b : Told) : Type 0 where
   pub goes : KeepsPast a b
+  pub kept : IsSynced a Control
+  pub control : KeepsFile a b Control
   pub recovers : NothingPending a → (t : ℕ) → a.moment < t → t ≤ b.moment → RecoversTo (crash_at b t) r
   pub pending : NothingPending a → NothingPending b
   pub flushed : NothingPending a → AllFlushed (crash_now b)
@@ -55,6 +58,8 @@ pub spared_by : (store : Held) (r : Repository) (a : Told) (holds : Holds store 
     → (these : FileName → Type 0) → ((file : FileName) → these file → IsApart store.slot file) → (b : Told) → ChangesBeside n these a b → Spared r holds.stands.standing.records a b
 spared_by store r a holds none n other below these apart b changes = record {
   goes = changes.goes;
+  kept = holds.kept;
+  control = changes.others Control (apart Control) (λ of. of);
   recovers = recovers_apart store r a holds none n other below these apart b changes;
   pending = pending_apart store r a holds none n other below these apart b changes;
   flushed = flushed_apart store r a holds none n other below these apart b changes;

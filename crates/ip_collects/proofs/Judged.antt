@@ -5,7 +5,7 @@
 --     over_here      the records below the job's end are those of its check
 --     begun_next      the check that begins.      none_looked      none was kept.      same_one, has_exit, put_check      the collection that keeps it
 --     sliced_tables, sliced_holds, sliced_says, slices, looks_on      behind a slice of it.      begins_over, begins_checking      what a slice asks
---     zero_fits, ends_through, not_open, no_damage, blames_check, breaks_check, memory_check, counts_check      what an answer of it says.      check_readable      where the live pair is no other's
+--     zero_fits, ends_through, not_open, no_damage, blames_check, breaks_check, memory_check, unsaid_check, counts_check      what an answer of it says.      check_readable      where the live pair is no other's
 use Rattle.std.proofs.Common.{◌≡◌, ◌≢◌, ◌⊎◌, inl, inr, ℕ, ◌+◌, ◌-◌, ◌^◌, ◌<◌, ◌≤◌, pos, [], Option, Some, None, true, refl, sym, ◌∙◌, ap, subst, arith}
 use Rattle.std.proofs.lemmas.Bool.{false≢true}
 use Rattle.std.specs.Prelude.{Result, Ok, Err, IsErr, IsErrOf, IsSome, IfSome, IfOk, OnOk, is_some}
@@ -49,7 +49,7 @@ use Rattle.ip_held.specs.Collecting.{Collects, HasEnded, IsGoing, IsOfChild, IsP
 use Rattle.ip_collects.specs.CollectFaults.{counted_finish}
 use Rattle.ip_collects.specs.Finishing.{IsUndamaged, looked_at, looked_of}
 use Rattle.ip_collects.specs.declared.finishing.FinishFault.{FinishFault}
-use Rattle.ip_collects.specs.Judging.{EndsCheck, FindsNone, FitsExit, IsBlamedIn, IsCheckOf, IsDamagedIn, IsNextCheck, IsOpen, SlicesBy, TellsVerdict, verdict_by, with_check}
+use Rattle.ip_collects.specs.Judging.{EndsCheck, FindsNone, FitsExit, IsBlamedIn, IsCheckOf, IsDamagedIn, IsNextCheck, IsOpen, IsThrough, SlicesBy, TellsVerdict, verdict_by, with_check}
 use Rattle.ip_held.specs.Held.{IsOf, Holds, OwnsPair}
 use Rattle.ip_held.specs.Sweeping.{IsApart, ChangesBeside}
 use Rattle.ip_held.proofs.Apart.{beside_for, holds_apart, list_apart}
@@ -371,6 +371,12 @@ memory_check c now (Ok Outcome.More) left unsaid is = absurd (cc (is))
 memory_check c now (Ok Outcome.Valid) left unsaid is = absurd (cc (is))
 memory_check c now (Ok (Outcome.Differs difference)) left unsaid is = absurd (cc (is))
 memory_check c now (Err fault) left unsaid is = λ difference. unsaid refl (Some difference)
+
+pub unsaid_check : (c : Collection) (now : CheckView) (result : Result Outcome CheckFault) (left : ℕ) → (IsErr result → (told : Option Difference) → now.stage ≢ Stage.Through told) → verdict_by result left ≡ Err FinishFault.Memory → ¬ IsThrough (Some (record c { check = Some now }))
+unsaid_check c now (Ok Outcome.More) left unsaid is = absurd (cc (is))
+unsaid_check c now (Ok Outcome.Valid) left unsaid is = absurd (cc (is))
+unsaid_check c now (Ok (Outcome.Differs difference)) left unsaid is = absurd (cc (is))
+unsaid_check c now (Err fault) left unsaid is = λ through. unsaid refl None through
 
 pub counts_check : (result : Result Outcome CheckFault) (left : ℕ) (d e : Noted) → Counts counted_check result d e → Counts counted_finish (verdict_by result left) d e
 counts_check (Ok Outcome.More) left d e counts = counts

@@ -18,6 +18,7 @@ pub mod FinishSpans
 pub mod FinishTurns
 pub mod HeldPair
 pub mod Judged
+pub mod LookBounds
 pub mod StartTurns
 pub mod Started
 pub mod SwapStep

@@ -40,6 +40,7 @@ use Rattle.ip_held.proofs.CommandTurns.{turn_is, plain, memory_turns}
 use Rattle.ip_held.proofs.KeptFiles.{keeps_itself}
 use Rattle.ip_held.proofs.Machine.{asks_none}
 use Rattle.ip_held.proofs.Recovering.{recovers_now}
+use Rattle.ip_held.proofs.SlotLaws.{slots_none}
 use Rattle.ip_held.proofs.TableRecords.{none_below}
 
 -- ---- the machine
@@ -266,6 +267,7 @@ starts_none r store store' told fault not held = record {
   holds = λ begins. absurd (not begins);
   lent = λ begins. absurd (not begins);
   fresh = never_lent store r told held;
+  slots = λ pending. slots_none told;
   recovers = λ pending t after le. absurd (omega (arith, after, le));
   nothing_pending = λ pending begins. pending;
   flushed = λ pending. (recovers_now store r told held pending).flushed;
@@ -281,6 +283,7 @@ starts_with r n m res out store now old new same begun holds slot is = subst (λ
   holds = λ begins. holds (begun begins) (is.holds (begun begins));
   lent = λ begins. is.lent (begun begins);
   fresh = is.fresh;
+  slots = is.slots;
   recovers = is.recovers;
   nothing_pending = λ pending begins. is.nothing_pending pending (begun begins);
   flushed = is.flushed;

@@ -29,6 +29,7 @@ use Rattle.ip_collects.specs.CollectEvents.{cancel_events}
 use Rattle.ip_collects.specs.Starting.{AnswersCall}
 use Rattle.ip_held.specs.Clear.{KeepsClear, ClearsAll}
 use Rattle.ip_held.specs.Fronts.{LeavesFront}
+use Rattle.ip_held.specs.Slots.{KeepsSlots}
 use Rattle.ip_held.specs.Tie.{IsTied}
 use Rattle.ip_held.specs.Trees.{RecordsStay}
 use Rattle.ip_spec.specs.declared.command.Command.TheVariants as Command
@@ -77,6 +78,7 @@ pub record Cancels (r : Repository) (c : Collection) (result : Result Cancelled 
   pub gone : result ≡ Ok Cancelled.Done → left ≡ 0 → (file : FileName) → IsSwept store.slot u file → ¬ IsForeign new file → new.held file ≡ None
   -- and else all but so many
   pub all_but : result ≡ Ok Cancelled.Done → AllBut (IsSwept store.slot u) left new new
+  pub slots : NothingPending old → KeepsSlots old new
   pub recovers : NothingPending old → (t : ℕ) → old.moment < t → t ≤ new.moment → RecoversTo (crash_at new t) r
   pub nothing_pending : NothingPending old → NothingPending new
   pub flushed : NothingPending old → AllFlushed (crash_now new)

@@ -6,7 +6,8 @@
 --     after_by result r c      the repository then.      after_with result difference r c      the machine's, by the difference that there is
 --     Ends exit most c result left store now      what it does that the child has ended so.      EndsBy records r c result u left store old new      where the ground tells
 --     Goes child most result met store now      and what the whole call does, whatever was heard
-use Rattle.std.specs.Prelude.{◌≡◌, ◌≢◌, ◌⊎◌, ◌↔◌, ℕ, ◌-◌, ◌≤◌, ◌^◌, Bool, true, false, Option, Some, None, Result, Ok, Err, IfSome, IsErrOf, IsTrue, is_err, is_ok, is_some}
+use Rattle.std.specs.Prelude.{◌≡◌, ◌≢◌, ◌⊎◌, ◌↔◌, ℕ, ◌-◌, ◌<◌, ◌≤◌, ◌^◌, Bool, true, false, Option, Some, None, Result, Ok, Err, IfSome, IsErrOf, IsTrue, is_err, is_ok, is_some}
+use Rattle.ip_base.specs.declared.limit.TheConstants.{OFFSET_MAX}
 use Rattle.ip_base.specs.declared.limit.Limit.{Limit}
 use Rattle.ip_base.specs.declared.exit.Exit.{Exit}
 use Rattle.ip_base.specs.declared.exit.Reaped.{Reaped}
@@ -37,7 +38,7 @@ use Rattle.ip_collects.specs.declared.finishing.Rejection.TheVariants as Rejecti
 use Rattle.ip_held.specs.declared.held.Held.{Held}
 use Rattle.ip_held.specs.Collecting.{child_of}
 use Rattle.ip_collects.specs.Finishing.{LookReplies, Concludes, HasAnswer, IsAsked, IsChecking, IsCollected, IsKept, IsOver, IsQuiet, IsSweptBehind, FinishesAs, KeepsCollection, LimitsFinish, SlotBy, Slices, child_reaped, child_seen, conditions_by, looked_at, looked_of, met_by_finish, unswept_by}
-use Rattle.ip_collects.specs.Judging.{FindsNone, FitsRejection, is_zero}
+use Rattle.ip_collects.specs.Judging.{FindsNone, FitsRejection, IsThrough, is_zero}
 use Rattle.ip_held.specs.StandsBy.{LeavesSwapped}
 use Rattle.ip_held.specs.Held.{IsOf, Holds}
 use Rattle.ip_held.specs.Sweeping.{EndsFor, KeepsFiles}
@@ -100,6 +101,7 @@ after_by result r c = r
 pub record Ends (exit : Exit) (most : ℕ) (c : Collection) (result : Result Looked FinishFault) (left : ℕ) (store now : Held) : Type 0 where
   pub fits : FitsEnd exit c left result
   pub through : result ≡ Err FinishFault.Memory → FindsNone now.collection
+  pub sequence : result ≡ Err FinishFault.Memory → IsThrough now.collection → store.slot.sequence < OFFSET_MAX
   pub none : ¬ IsSweptBehind result → left ≡ 0
   pub goes_on : GoesOnAs result c now.collection
   pub tables : (r : Repository) → IsOf store r → HasAnswer result → IsOf now (after_by result r c)
@@ -148,12 +150,16 @@ pub record Goes (child : Child) (most : ℕ) (result : Result Looked FinishFault
   pub answered : (r : Repository) → IsOf store r → (command : Command) → IsAsked command result → LookReplies result (Concludes r store.collection command (conditions_by met result) now)
   pub runs : (store.collection ≡ None) ↔ IsErrOf result FinishFault.Idle
   pub quiet : IsQuiet result → now ≡ store
+  -- where no sweep follows no removal failed
+  pub none : ¬ IsSweptBehind result → met.left ≡ 0
   pub ended : IsQuiet result ⊎ ((reaped : Reaped) × (child ≡ Child.Ended reaped))
   pub held : child_of now.collection ≡ held_behind child (child_of store.collection)
   -- memory is wanted only where what it wrote is looked at
   pub wanted : result ≡ Err FinishFault.Memory → (reaped : Reaped) → child ≡ Child.Ended reaped → is_zero reaped.exit
   -- and never once the check is through with a difference
   pub through : result ≡ Err FinishFault.Memory → FindsNone now.collection
+  -- nor where it has found the pair valid and the sequence is at its end
+  pub sequence : result ≡ Err FinishFault.Memory → IsThrough now.collection → store.slot.sequence < OFFSET_MAX
   -- how the child ended is kept where it is not over, and so is the check
   pub goes_on : IsKept result → (c : Collection) (reaped : Reaped) → store.collection ≡ Some c → child ≡ Child.Ended reaped → KeepsCollection c reaped now.collection
   pub sliced : (c : Collection) → store.collection ≡ Some c → Slices most c result now.collection

@@ -6,13 +6,13 @@
 --     Concludes r running command met store reply      so whatever the work is, and the tables are the next repository's
 --     HasAnswer result      it is no fault of the ground or of its files.      IsUndamaged result      it is none of the files.      IsOver result      no collection runs any more.      IsSweptBehind result      a sweep follows
 --     swapped_slot s u c length rows      the slot of the swap
---     looked_of check, looked_at c      how many records were looked at.      KeepsCollection c reaped now      it is the same; how its child ended is kept, and its check
+--     looked_of check, looked_at c      how many records were looked at.      LooksWithin most records c      no more were to be looked at from the commit on than these and those before.      KeepsCollection c reaped now      it is the same; how its child ended is kept, and its check
 --     IsSliced most c left now      a check that is not through, behind a slice of it.      Slices most c result now      so it is where an answer says so.      fault_by fault      a fault of the check
 --     CountsFinish result left old new      removals that failed are counted, and damage that was found.      unswept_by result left s u      what is unswept then
 --     Judges records c met told      the difference is that of the settled pair.      WorksStay held now      works are lawful, or given up
 --     FinishesAs r after c result u left store old new      what it does to what a ground tells, and what the store holds then
 --     FinishesBy records r c command result u said store old new      and that it is the machine's
-use Rattle.std.specs.Prelude.{◌≡◌, ◌≢◌, ◌⊎◌, ◌==◌, if◌then◌else◌, ℕ, ◌+◌, ◌<◌, ◌≤◌, Bool, true, false, Option, Some, None, Result, Ok, Err, IsSomeAnd}
+use Rattle.std.specs.Prelude.{◌≡◌, ◌≢◌, ◌⊎◌, ◌==◌, if◌then◌else◌, ℕ, ◌+◌, ◌<◌, ◌≤◌, Bool, true, false, Option, Some, None, Result, Ok, Err, IsSomeAnd, count_by}
 use Rattle.ip_base.specs.declared.limit.TheConstants.{OFFSET_MAX}
 use Rattle.ip_base.specs.declared.limit.Limit.{Limit}
 use Rattle.ip_ground.specs.declared.names.FileName.{FileName}
@@ -39,6 +39,7 @@ use Rattle.ip_check.specs.declared.fault.CheckFault.{CheckFault}
 use Rattle.ip_check.specs.CheckView.{CheckView}
 use Rattle.ip_check.specs.Checking.{looked_by}
 use Rattle.ip_check.specs.Going.{IsOpen}
+use Rattle.ip_keep.specs.Keeping.{starts_between}
 use Rattle.ip_image.specs.Collected.{remaining}
 use Rattle.ip_image.specs.Collection.{IsJudged, IsKept as AreKept}
 use Rattle.ip_image.specs.Headline.{RecoversTo, IsAtomic}
@@ -53,6 +54,7 @@ use Rattle.ip_held.specs.declared.work.Work.{Work}
 use Rattle.ip_held.specs.Collecting.{phase_of}
 use Rattle.ip_held.specs.StandsBy.{LeavesSwapped}
 use Rattle.ip_held.specs.Held.{IsOf, Holds, image_records}
+use Rattle.ip_held.specs.Slots.{KeepsSlots}
 use Rattle.ip_held.specs.Sweeping.{AllBut, EndsFor, IsSwept, KeepsFiles, swept_to}
 use Rattle.ip_held.specs.Work.{IsLawful, state_at}
 
@@ -193,6 +195,10 @@ looked_of (Some check) = looked_by check
 abbrev pub looked_at : Collection → ℕ
 looked_at c = looked_of c.check
 
+-- no more records start from the commit on than were looked at before, and these in this call
+abbrev pub LooksWithin : ℕ → Records → Collection → Type 0
+LooksWithin most records c = count_by (starts_between c.job.horizon c.job.end) records ≤ looked_at c + most
+
 pub record KeepsCollection (c : Collection) (reaped : Reaped) (now : Option Collection) : Type 0 where
   pub same : Collection
   pub is : now ≡ Some same
@@ -263,6 +269,7 @@ pub record FinishesAs (r after : Repository) (c : Collection) (result : Result L
   pub all_but : IsSweptBehind result → AllBut (IsSwept store.slot u) left new new
   -- Where nothing was pending: at every moment whatever a crash leaves stands for the repository before or after the call, and once it is answered for the latter alone, and nothing is pending.
   pub atomic : NothingPending old → IsAtomic old new r after
+  pub slots : NothingPending old → KeepsSlots old new
   pub recovers : NothingPending old → HasAnswer result → RecoversTo (crash_now new) after
   pub nothing_pending : NothingPending old → HasAnswer result → NothingPending new
   pub flushed : NothingPending old → AllFlushed (crash_now new)

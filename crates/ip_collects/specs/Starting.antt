@@ -43,11 +43,12 @@ use Rattle.ip_collects.specs.CollectEvents.{begin_events}
 use Rattle.ip_held.specs.Changes.{next_slot}
 use Rattle.ip_held.specs.Clear.{KeepsClear}
 use Rattle.ip_held.specs.Fronts.{LeavesFront}
+use Rattle.ip_held.specs.Slots.{KeepsSlots}
 use Rattle.ip_held.specs.Tie.{IsTied, appending}
 use Rattle.ip_held.specs.Trees.{RecordsStay}
 use Rattle.ip_held.specs.Collecting.{phase_of, carried, IsJobOf}
 use Rattle.ip_held.specs.Answers.{Turns, met_nothing}
-use Rattle.ip_publish.specs.Publishing.{MayChange}
+use Rattle.ip_publish.specs.Publishing.{IsOfStore, MayChange}
 use Rattle.ip_held.specs.Held.{IsOf, Holds, image_records, place_of_commit}
 use Rattle.ip_held.specs.Sweeping.{ChangesFor, KeepsFiles}
 use Rattle.ip_held.specs.Work.{state_at}
@@ -164,6 +165,7 @@ pub record StartsCollection {A : Type 0} (r : Repository) (attempt : ℕ) (resul
   pub fresh : NothingPending old → lending old attempt ≡ own
   -- Where nothing was pending: at every moment whatever a crash leaves stands for the repository, and once it is answered nothing is pending.
   pub recovers : NothingPending old → (t : ℕ) → old.moment < t → t ≤ new.moment → RecoversTo (crash_at new t) r
+  pub slots : NothingPending old → KeepsSlots old new
   pub nothing_pending : NothingPending old → IsBegun result → NothingPending new
   pub flushed : NothingPending old → AllFlushed (crash_now new)
   -- the child may read what the slot's records lie in
@@ -183,6 +185,8 @@ pub record BeginsCollecting (tells : Bool) (number : ℕ) (result : Result Hash 
   -- So is memory wanted there alone.
   pub wanted : (r : Repository) → IsOf store r → IsErrOf result CollectFault.Memory → IsFree r number store × (store.slot.next_attempt < OFFSET_MAX)
   pub limits : (r : Repository) → IsOf store r → LimitsStart (store.slot.end + length (spelling (table_of r))) result store
+  -- no file but the store's and the attempt's is touched, whatever the files are
+  pub beside : IsTrue tells → ChangesFor store.slot.next_attempt IsOfStore old new
   pub begins : IsTrue tells → IsBegun result → (r : Repository) → IsOf store r → Begins r store now old new
   pub any_moment : IsTrue tells → (r : Repository) → Holds store old r → StartsCollection r store.slot.next_attempt result now old new
   pub stay : IsTrue tells → IsBegun result → (r q : Repository) (held : Holds store old r) (still : Holds now new q) → RecordsStay (image_records held) (image_records still)

@@ -29,6 +29,7 @@ use Rattle.ip_collects.specs.declared.swapping.Swap.{Swap}
 use Rattle.ip_collects.specs.Finishing.{Serves, swapped_slot}
 use Rattle.ip_held.specs.StandsBy.{LeavesSwapped}
 use Rattle.ip_held.specs.Held.{IsOf, Holds}
+use Rattle.ip_held.specs.Slots.{KeepsSlots}
 use Rattle.ip_held.specs.Sweeping.{EndsFor, KeepsFiles}
 
 pub record IsSwap (store : Held) (c : Collection) (check : CheckView) (swap : Swap) : Type 0 where
@@ -99,6 +100,7 @@ pub record AcceptsAs (records : Records) (r : Repository) (c : Collection) (resu
   -- what is kept, and what came from the commit on
   pub remains : (q : Repository) (now : Holds store new q) → OnOk result ((kept : Records) × IsKept records c.job.horizon c.job.end kept × (now.stands.standing.records ≡ remaining c.job.horizon kept records))
   pub atomic : NothingPending old → IsAtomic old new r (collected_at r c.commit)
+  pub slots : NothingPending old → KeepsSlots old new
   pub leaves : NothingPending old → LeavesSwapped records c old new
   pub nothing_pending : NothingPending old → OnOk result (NothingPending new)
   pub flushed : NothingPending old → AllFlushed (crash_now new)

@@ -1,5 +1,5 @@
 // The verdict on what a child wrote.
-ghost use Rattle.std.specs.Prelude.{◌≡◌, ℕ, ◌-◌, ◌≤◌, ◌^◌, pos, Option, Some, None, Err, IsTrue, IsSome, IfSome, IfOk, IsErr, IsErrOf};
+ghost use Rattle.std.specs.Prelude.{◌≡◌, ℕ, ◌-◌, ◌≤◌, ◌^◌, pos, Option, Some, None, Ok, Err, IsTrue, IsSome, IfSome, IfOk, IsErr, IsErrOf};
 ghost use Rattle.ip_ground.specs.Counts.{Counts};
 ghost use Rattle.ip_ground.specs.Told.{NoFile, ChangesOnly};
 ghost use Rattle.ip_base.specs.declared.exit.Exit.TheVariants as Exit;
@@ -9,8 +9,9 @@ ghost use Rattle.ip_check.specs.Checking.{IsSpaceOf};
 ghost use Rattle.ip_spec.specs.Repository.{Repository};
 ghost use Rattle.ip_collects.specs.CollectFaults.{counted_finish};
 ghost use Rattle.ip_collects.specs.declared.finishing.FinishFault.TheVariants as FinishFault;
-ghost use Rattle.ip_collects.specs.Finishing.{IsUndamaged, looked_at, looked_of};
-ghost use Rattle.ip_collects.specs.Judging.{FindsNone, FitsExit, EndsCheck, IsBlamedIn, IsDamagedIn, IsCheckOf, IsNextCheck, IsOpen, SlicesBy, TellsVerdict, verdict_by, with_check};
+ghost use Rattle.ip_collects.specs.declared.checking.Verdict.TheVariants as Verdict;
+ghost use Rattle.ip_collects.specs.Finishing.{IsUndamaged, LooksWithin, looked_at, looked_of};
+ghost use Rattle.ip_collects.specs.Judging.{FindsNone, FitsExit, EndsCheck, IsBlamedIn, IsDamagedIn, IsCheckOf, IsNextCheck, IsOpen, IsThrough, SlicesBy, TellsVerdict, verdict_by, with_check};
 ghost use Rattle.ip_held.specs.Held.{IsOf, Holds, OwnsPair};
 ghost use Rattle.ip_held.specs.declared.collection.Collection.{Collection as CollectionValue};
 
@@ -51,10 +52,12 @@ pub(crate) fn judge<G: Ground>(
     ensures whole { most ≡ 2 ^ 64 - 1 → ¬ IsOpen result }
     ensures holds { IsTrue G.tells → (r : Repository) → Holds store.old (G.told outside.old) r → Holds store.new (G.told outside.new) r }
     ensures says { IsTrue G.tells → (r : Repository) (held : Holds store.old (G.told outside.old) r) (c : CollectionValue) → store.old.collection ≡ Some c → TellsVerdict held.stands.standing.records c (G.told outside.old) result }
+    ensures bounded { IsTrue G.tells → (r : Repository) (held : Holds store.old (G.told outside.old) r) (c : CollectionValue) → store.old.collection ≡ Some c → result ≡ Ok Verdict.Valid → LooksWithin most held.stands.standing.records c }
     ensures undamaged { IsTrue G.tells → (r : Repository) → Holds store.old (G.told outside.old) r → IsUndamaged result }
     ensures blames { (at : ℕ) → IsErrOf result (FinishFault.Damaged at) → IsBlamedIn store.new.collection at }
     ensures broken { IsTrue G.tells → OwnsPair (G.told outside.old) store.old.slot → (at : ℕ) → IsErrOf result (FinishFault.Damaged at) → IsDamagedIn (G.told outside.new) store.new.collection at }
     ensures through { result ≡ Err FinishFault.Memory → FindsNone store.new.collection }
+    ensures unsaid { result ≡ Err FinishFault.Memory → ¬ IsThrough store.new.collection }
     ensures only { IsTrue G.tells → ChangesOnly NoFile (G.told outside.old) (G.told outside.new) }
     ensures counts { Counts counted_finish result (G.counts_of outside.old) (G.counts_of outside.new) }
 {
@@ -82,10 +85,12 @@ fn check<G: Ground>(
     ensures whole { most ≡ 2 ^ 64 - 1 → ¬ IsOpen result }
     ensures holds { IsTrue G.tells → (r : Repository) → Holds store.old (G.told outside.old) r → Holds store.new (G.told outside.new) r }
     ensures says { IsTrue G.tells → (r : Repository) (held : Holds store.old (G.told outside.old) r) (c : CollectionValue) → store.old.collection ≡ Some c → TellsVerdict held.stands.standing.records c (G.told outside.old) result }
+    ensures bounded { IsTrue G.tells → (r : Repository) (held : Holds store.old (G.told outside.old) r) (c : CollectionValue) → store.old.collection ≡ Some c → result ≡ Ok Verdict.Valid → LooksWithin most held.stands.standing.records c }
     ensures undamaged { IsTrue G.tells → (r : Repository) → Holds store.old (G.told outside.old) r → IsUndamaged result }
     ensures blames { (at : ℕ) → IsErrOf result (FinishFault.Damaged at) → IsBlamedIn store.new.collection at }
     ensures broken { IsTrue G.tells → OwnsPair (G.told outside.old) store.old.slot → (at : ℕ) → IsErrOf result (FinishFault.Damaged at) → IsDamagedIn (G.told outside.new) store.new.collection at }
     ensures through { result ≡ Err FinishFault.Memory → FindsNone store.new.collection }
+    ensures unsaid { result ≡ Err FinishFault.Memory → ¬ IsThrough store.new.collection }
     ensures only { IsTrue G.tells → ChangesOnly NoFile (G.told outside.old) (G.told outside.new) }
     ensures counts { Counts counted_finish result (G.counts_of outside.old) (G.counts_of outside.new) }
 {

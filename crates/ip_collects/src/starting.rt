@@ -16,7 +16,9 @@ ghost use Rattle.ip_held.specs.Fronts.{LeavesFront};
 ghost use Rattle.ip_collects.specs.Starting.{begun, new_collection, branch_name_at, met_by_start, BeginsCollecting, IsBegun, IsTurnedDown, IsJobAt, IsFree, RefusesStart, started_by, IsStart, StartsCollection};
 ghost use Rattle.ip_held.specs.TableRecord.{table_of, branch_row};
 ghost use Rattle.ip_held.specs.Held.{IsOf, Holds};
+ghost use Rattle.ip_held.specs.Sweeping.{ChangesFor};
 ghost use Rattle.ip_held.specs.Tie.{appending};
+ghost use Rattle.ip_publish.specs.Publishing.{IsOfStore};
 ghost use Rattle.ip_collects.specs.declared.starting.CollectFault.TheVariants as CollectFault;
 
 use ip_base::limit::OFFSET_MAX;
@@ -184,6 +186,8 @@ fn begin<G: Ground, P: Spawner>(
         image.records ≡ held.stands.standing.records ++ (store.old.slot.end, table_of r) ∷ [] }
     ensures fronts { IsTrue G.tells → (r : Repository) (number : ℕ) (held : Holds store.old (G.told outside.old) r) → IsStart r store.old number start.now → NothingPending (G.told outside.old) →
         LeavesFront store.old held.stands.standing.records (appending ((store.old.slot.end, table_of r) ∷ [])) (G.told outside.old) (G.told outside.new) }
+    // whatever the files are
+    ensures beside { IsTrue G.tells → ChangesFor start.now.job.attempt IsOfStore (G.told outside.old) (G.told outside.new) }
     ensures counts { Counts counted_start result (G.counts_of outside.old) (G.counts_of outside.new) }
 {
     let step = Step {

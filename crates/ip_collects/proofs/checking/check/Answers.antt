@@ -4,13 +4,15 @@ use Rattle.ip_ground.specs.Counts.{Counts}
 use Rattle.ip_held.specs.declared.collection.Collection.{Collection}
 use Rattle.ip_held.specs.declared.held.Held.{Held}
 use Rattle.ip_held.specs.Collecting.{until}
+use Rattle.ip_image.specs.Collection.{found_in}
 use Rattle.ip_check.specs.Checking.{looked_by}
 use Rattle.ip_collects.specs.CollectFaults.{counted_finish}
-use Rattle.ip_collects.specs.Finishing.{IsUndamaged, looked_at}
-use Rattle.ip_collects.specs.Judging.{EndsCheck, FindsNone, FitsExit, IsOpen, SlicesBy, TellsVerdict}
+use Rattle.ip_collects.specs.Finishing.{IsUndamaged, LooksWithin, looked_at}
+use Rattle.ip_collects.specs.Judging.{EndsCheck, FindsNone, FitsExit, IsOpen, IsThrough, SlicesBy, TellsVerdict}
 use Rattle.ip_held.specs.Held.{Holds, IsOf}
 use Rattle.ip_held.proofs.Going.{phase_here}
-use Rattle.ip_collects.proofs.Judged.{begins_checking, begins_over, blames_check, breaks_check, check_readable, counts_check, ends_through, has_exit, job_space, kept_check, looks_on, memory_check, no_damage, none_looked, not_open, put_check, same_one, sliced_holds, sliced_says, sliced_tables, slices, with_holds, zero_fits}
+use Rattle.ip_collects.proofs.Judged.{begins_checking, begins_over, blames_check, breaks_check, check_readable, counts_check, ends_through, has_exit, job_space, kept_check, looks_on, memory_check, no_damage, none_looked, not_open, put_check, same_one, sliced_holds, sliced_says, sliced_tables, slices, unsaid_check, with_holds, zero_fits}
+use Rattle.ip_collects.proofs.LookBounds.{bounds_looks}
 use Rattle.ip_collects.proofs.checking.check.Goals as goal
 
 pub returns-in_err-check-clause-holds : goal.returns-in_err-check-clause-holds
@@ -151,3 +153,23 @@ returns-clause-through g c is = memory_check c.take_check.new.collection c.advan
 -- no check was kept, and none began
 pub returns-in_err-check-clause-through : goal.returns-in_err-check-clause-through
 returns-in_err-check-clause-through g c is = subst (λ (y : Collection). FindsNone (Some y)) (sym c.take_check.ensures.taken) tt
+
+pub returns-clause-unsaid : goal.returns-clause-unsaid
+returns-clause-unsaid g c is = unsaid_check c.take_check.new.collection c.advance-outcome.new.self c.advance-outcome.result c.left-left.result c.advance-outcome.ensures.unsaid (sym c.verdict_of.ensures ∙ is)
+
+pub returns-in_err-check-clause-unsaid : goal.returns-in_err-check-clause-unsaid
+returns-in_err-check-clause-unsaid g c is = subst (λ (y : Collection). ¬ IsThrough (Some y)) (sym c.take_check.ensures.taken) (λ no. no)
+
+pub returns-clause-bounded : goal.returns-clause-bounded
+returns-clause-bounded g c told r held y runs valid =
+    let store = c.args.store.now in
+    let x = c.in-Some.collection in
+    let a = g.G.Ground.told c.args.outside.now in
+    let some = has_exit store.collection x c.in-Some.is c.requires.running in
+    let slice = c.advance-outcome.ensures in
+    let next = c.in_ok-check.ensures.next in
+    let over = begins_over store r x c.in-Some.is some c.in_ok-check.check next c.advance-outcome.new.self slice.check slice.same a held in
+    let begins = begins_checking store r x c.in-Some.is some c.in_ok-check.check next c.advance-outcome.new.self slice.check slice.same a held in
+    subst (λ (z : Collection). LooksWithin c.args.most held.stands.standing.records z) (same_one store.collection x y c.in-Some.is runs)
+    (bounds_looks c.args.most held.stands.standing.records x store.space c.in_ok-check.check c.advance-outcome.new.self (found_in a.held c.in_ok-check.check.job.attempt) next slice.check slice.same
+    (slice.checking told over.readable over.fixed (until x.job.end held.stands.standing.records) over.whole begins) c.advance-outcome.result c.left-left.result slice.advances (sym c.verdict_of.ensures ∙ valid))

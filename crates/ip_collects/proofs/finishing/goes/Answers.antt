@@ -6,7 +6,7 @@ use Rattle.ip_collects.specs.declared.finishing.FinishFault.{FinishFault}
 use Rattle.ip_held.specs.declared.held.Held.{Held}
 use Rattle.ip_collects.specs.Ending.{Goes}
 use Rattle.ip_collects.specs.Finishing.{FinishesBy, met_by_finish}
-use Rattle.ip_collects.proofs.FinishCalls.{cut_finishes, end_finishes, end_goes, end_loud, end_works, goes_cut, goes_idle, goes_on, goes_runs, goes_wait, may_hear, on_counts, on_finishes, on_owns, on_untouched, on_works, quiet_works, some_heard}
+use Rattle.ip_collects.proofs.FinishCalls.{cut_finishes, end_finishes, end_goes, end_loud, end_works, goes_cut, goes_idle, goes_on, goes_runs, goes_wait, may_hear, on_bounded, on_counts, on_finishes, on_owns, on_untouched, on_works, quiet_works, some_heard}
 use Rattle.ip_collects.proofs.finishing.goes.Goals as goal
 
 pub heard-requires : goal.heard-requires
@@ -76,6 +76,15 @@ returns-in-Ok-clause-works_stay g c told has r q held now =
     on_works c.args.store.now y is c.in-Ended.reaped c.args.most may r _ held _ (c.heard.ensures.does told y is)
     result (met_by_finish (Heard.Ended c.in-Ended.reaped) result left) c.judged.new.store _ refl c.heard.new.store (c.heard.ensures.heard y is) here q now
     (end_works c.heard.new.store known runs c.in-Ended.reaped refl c.args.most result left c.judged.new.store (c.judged.ensures.ends known runs) r _ _ here (c.judged.ensures.any_moment told r here known runs) has q now)
+
+pub returns-in-Ok-clause-bounded : goal.returns-in-Ok-clause-bounded
+returns-in-Ok-clause-bounded g c told r held x runs collected =
+    let (y, is, may) = some_heard c.args.store.now.collection c.args.child c.in-Ended.reaped c.in-Ended.is c.requires.heard in
+    let here = c.in-Ok.ensures.holds told r held in
+    let known = record x { exit = Some c.in-Ended.reaped } in
+    let there = ap (λ (s : Held). s.collection) (c.heard.ensures.heard x runs) in
+    on_bounded c.args.store.now x runs c.in-Ended.reaped c.args.most (may_hear c.args.store.now.collection y x c.in-Ended.reaped is runs may) r _ held _ (c.heard.ensures.does told x runs) c.heard.new.store here
+    (c.judged.ensures.bounded told r here known there collected)
 
 pub returns-in-Ok-clause-counts : goal.returns-in-Ok-clause-counts
 returns-in-Ok-clause-counts g c = on_counts c.judged.result.0 c.judged.result.1 _ _ _ c.in-Ok.ensures.counts c.judged.ensures.counts

@@ -3,7 +3,7 @@ use Rattle.ip_held.specs.declared.fault.StoreFault.TheVariants as StoreFault
 use Rattle.ip_held.specs.TableRecord.{table_of}
 use Rattle.ip_collects.specs.declared.starting.CollectFault.TheVariants as CollectFault
 use Rattle.ip_collects.specs.Starting.{StartsCollection}
-use Rattle.ip_collects.proofs.Begun.{may_begin, begun_step, starts_cut, starts_lent, begun_list, begun_front}
+use Rattle.ip_collects.proofs.Begun.{cut_beside, lent_beside, may_begin, begun_step, starts_cut, starts_lent, begun_list, begun_front}
 use Rattle.ip_collects.proofs.starting.begin.Goals as goal
 
 pub take-requires-clause-may : goal.take-requires-clause-may
@@ -84,3 +84,17 @@ returns-in-Err-start-clause-list g c told begins r number held is =
     begun_list r c.args.store.now number c.args.start.now held.tables is c.requires.idle (g.G.Ground.told c.args.outside.now) held c.take.new.self (g.G.Ground.told c.take.new.outside) c.take.result ok c.take.ensures.taken
     (c.take.ensures.took told r r ((c.args.store.now.slot.end, table_of r) ∷ []) held (begun_step r c.args.store.now number c.args.start.now held.tables is c.requires.idle c.as_slice.result.now c.as_slice.ensures.value (g.G.Ground.told c.args.outside.now) held))
     (g.met.G.Ground.possible _ told) (g.G.Ground.told c.lend.new.self) c.lend.result (c.lend.ensures.does told)
+
+-- ---- no other file is touched
+
+pub returns-in-Err-clause-beside : goal.returns-in-Err-clause-beside
+returns-in-Err-clause-beside g c told = cut_beside c.args.start.now.job.attempt _ _ (c.take.ensures.beside told)
+
+pub returns-in_err-lend-clause-beside : goal.returns-in_err-lend-clause-beside
+returns-in_err-lend-clause-beside g c told = lent_beside c.args.start.now.job.attempt _ _ _ c.lend.result (c.take.ensures.beside told) (c.lend.ensures.does told)
+
+pub returns-in-Ok-clause-beside : goal.returns-in-Ok-clause-beside
+returns-in-Ok-clause-beside g c told = lent_beside c.args.start.now.job.attempt _ _ _ c.lend.result (c.take.ensures.beside told) (c.lend.ensures.does told)
+
+pub returns-in-Err-start-clause-beside : goal.returns-in-Err-start-clause-beside
+returns-in-Err-start-clause-beside g c told = lent_beside c.args.start.now.job.attempt _ _ _ c.lend.result (c.take.ensures.beside told) (c.lend.ensures.does told)
