@@ -9,8 +9,7 @@
 use Rattle.std.proofs.Common.{◌≡◌, ◌≢◌, ◌↔◌, ◌⊎◌, inl, inr, ℕ, ◌-◌, ◌^◌, ◌≤◌, ◌++◌, Bool, true, false, List, [], ◌∷◌, refl, sym, ap, ◌∙◌, subst, arith, Option, Some, None, Ok, Err, IsTrue, length, append-nil}
 use Rattle.std.specs.Prelude.{Result, IfOk, OnOk, IfErr, IsErr, IsErrOf, IsSome, IsSomeAnd, is_err, is_some, not}
 use Rattle.ip_base.specs.declared.exit.Reaped.{Reaped}
-use Rattle.ip_ground.specs.Counts.{Noted, Counts, CountsLeft, Rose}
-use Rattle.ip_spawn.proofs.Rising.{rose_counted}
+use Rattle.ip_ground.specs.Counts.{Noted, Counts, CountsLeft}
 use Rattle.ip_spawn.specs.Children.{told_after}
 use Rattle.ip_spawn.specs.Children as spawn
 use Rattle.ip_spawn.specs.Counts as spawned
@@ -45,7 +44,7 @@ use Rattle.ip_session.specs.declared.session.SessionEnd.{SessionEnd}
 use Rattle.ip_session.specs.Asking.{HasStarted, HandlesNone, TellsNone, MeetsNone, QuietIfLong, GoesOnBy, IsSlicedIn, Asked, Spawns, starts_in}
 use Rattle.ip_session.specs.Session.{met_only, IsLong, CountsBy, CountsAny, CountsIn, EndsBy, MetDamage, counted_end}
 use Rattle.ip_session.specs.Starting.{HeldReplies, StartReplies, cancel_answer}
-use Rattle.ip_session.proofs.SessionLemmas.{started_is_short, cancelled_is_short, orphan_is_short, idle_is_short}
+use Rattle.ip_session.proofs.SessionLemmas.{started_is_short, start_fault_is_short, cancelled_is_short, orphan_is_short, idle_is_short}
 use Rattle.ip_store.specs.declared.store.Store.{Store}
 
 -- two facts on what there is
@@ -87,17 +86,18 @@ asks_nothing s s' command result m never over met goes_on sliced = record {
   sliced = sliced;
   running = λ is. absurd (cc (sym met.2 ∙ is));
   not_running = λ _. refl;
-  waits = omega arith;
+  waits = inl refl;
   no_wait = λ _. refl;
-  waited = λ _ some. absurd (some refl);
-  reaps = omega arith;
+  waited = λ _ either. elim either [ inl some ↦ absurd (some refl) | inr fault ↦ absurd (cc (sym met.2 ∙ fault)) ];
+  reaps = inl refl;
   none_reaped = λ _. (refl, refl);
   heard = λ reaped is. absurd (cc (sym met.2 ∙ is));
-  unheard = λ is. absurd (cc (sym met.2 ∙ is));
   cancelled = λ is. absurd (over is);
-  spawn_faults = omega arith;
+  unheard = λ is. absurd (cc (sym met.2 ∙ is));
   start = λ failed. never_failed s'.met.start_failed met.0 failed;
   kill = λ failed. never_failed s'.met.kill_failed met.1 failed;
+  no_fault = λ _ _ _. refl;
+  cut = λ _. (met.0, met.1, met.3);
 }
 
 pub nothing_asked : (tells : Bool) (dir : Bytes) (x y : spawn.Told) (s s' : Session) (command : Command) (result : Result Reply SessionEnd) (m n : SpawnCounts) → y ≡ x → n ≡ m → ¬ HasStarted result → result ≢ Ok Reply.Cancelled → MeetsNone s'.met → IfOk result (λ reply. GoesOnBy [] s.store.held.collection s'.store.held.collection) → IfOk result (IsSlicedIn s.store.held.collection s'.store.held.collection) → AskedSo tells dir x y s s' command result m n
@@ -130,14 +130,14 @@ pub plain_asked : (tells : Bool) (dir : Bytes) (x : spawn.Told) (s s' : Session)
 plain_asked tells dir x s s' command result m none met same = nothing_asked tells dir x x s s' command result m m refl refl (tells_start result none) (tells_over result none) met (goes_same result s.store.held.collection s'.store.held.collection same) (tells_slice result s.store.held.collection s'.store.held.collection none)
 
 pub none_met : (met : Met) (refused : Bool) → met ≡ met_only refused → MeetsNone met
-none_met met refused is = (ap (λ (m : Met). m.start_failed) is, ap (λ (m : Met). m.kill_failed) is, ap (λ (m : Met). m.child) is)
+none_met met refused is = (ap (λ (m : Met). m.start_failed) is, ap (λ (m : Met). m.kill_failed) is, ap (λ (m : Met). m.child) is, ap (λ (m : Met). m.left) is)
 
 -- by a call of the store that has to do with no child
 pub faulted : {A : Type 0} (made : Result A StoreFault) → MeetsNone (met_by made)
-faulted (Ok x) = (refl, refl, refl)
-faulted (Err (StoreFault.Limit limit)) = (refl, refl, refl)
-faulted (Err StoreFault.Memory) = (refl, refl, refl)
-faulted (Err _) = (refl, refl, refl)
+faulted (Ok x) = (refl, refl, refl, refl)
+faulted (Err (StoreFault.Limit limit)) = (refl, refl, refl, refl)
+faulted (Err StoreFault.Memory) = (refl, refl, refl, refl)
+faulted (Err _) = (refl, refl, refl, refl)
 
 -- ---- a collection is to begin
 
@@ -167,7 +167,7 @@ module _ (tells : Bool) (dir : Bytes) (x y : spawn.Told) (s : Session) (store : 
       → AskedSo tells dir x y s now (Command.Collect target) result m n
   start_asked (Ok name) says is_met still stays asked =
       let (job, at, runs, told, counts) = asked tt in
-      let none : MeetsNone met = meets met (met_by_start (Ok name)) (says.1 ∙ is_met) (refl, refl, refl) in (
+      let none : MeetsNone met = meets met (met_by_start (Ok name)) (says.1 ∙ is_met) (refl, refl, refl, refl) in (
         job ∷ [],
         [],
         λ t. told t ∙ (λ i. record { started = x.started ++ starts_in dir (job ∷ []); reaped = sym (append-nil x.reaped) i }),
@@ -178,17 +178,18 @@ module _ (tells : Bool) (dir : Bytes) (x y : spawn.Told) (s : Session) (store : 
           sliced = subst (λ (z : Result Reply SessionEnd). IfOk z (IsSlicedIn s.store.held.collection store.held.collection)) (sym says.0) tt;
           running = λ is. absurd (cc (sym none.2 ∙ is));
           not_running = λ _. counts.running;
-          waits = omega (arith, counts.waits);
+          waits = inl counts.waits;
           no_wait = λ _. counts.waits;
           waited = λ is. absurd (cc is);
-          reaps = omega (arith, counts.reaps);
+          reaps = inl counts.reaps;
           none_reaped = λ _. (refl, counts.reaps);
           heard = λ reaped is. absurd (cc (sym none.2 ∙ is));
-          unheard = λ is. absurd (cc (sym none.2 ∙ is));
           cancelled = λ is. absurd (cc (sym says.0 ∙ is));
-          spawn_faults = counts.spawn_faults;
+          unheard = λ is. absurd (cc (sym none.2 ∙ is));
           start = λ failed. never_failed met.start_failed none.0 failed;
           kill = λ failed. never_failed met.kill_failed none.1 failed;
+          no_fault = λ _ _ _. counts.spawn_faults;
+          cut = λ _. (none.0, none.1, none.3);
         },
       )
   start_asked (Err CollectFault.Start) says is_met still stays asked =
@@ -204,28 +205,29 @@ module _ (tells : Bool) (dir : Bytes) (x y : spawn.Told) (s : Session) (store : 
           sliced = subst (λ (z : Result Reply SessionEnd). IfOk z (IsSlicedIn s.store.held.collection store.held.collection)) (sym says.0) tt;
           running = λ is. absurd (cc (sym none ∙ is));
           not_running = λ _. counts.running;
-          waits = omega (arith, counts.waits);
+          waits = inl counts.waits;
           no_wait = λ _. counts.waits;
           waited = λ is. absurd (cc is);
-          reaps = omega (arith, counts.reaps);
+          reaps = inl counts.reaps;
           none_reaped = λ _. (refl, counts.reaps);
           heard = λ reaped is. absurd (cc (sym none ∙ is));
-          unheard = λ is. absurd (cc (sym none ∙ is));
           cancelled = λ is. absurd (cc (sym says.0 ∙ is));
-          spawn_faults = counts.spawn_faults;
-          start = λ failed. counts.cause refl;
+          unheard = λ is. absurd (cc (sym none ∙ is));
+          start = λ failed. counts.spawn_faults;
           kill = λ failed. never_failed met.kill_failed (ap (λ (k : Met). k.kill_failed) (says.1 ∙ is_met)) failed;
+          no_fault = λ _ start _. absurd (cc (sym (ap (λ (k : Met). k.start_failed) (says.1 ∙ is_met)) ∙ start));
+          cut = λ failed. absurd (cc (subst IsErr says.0 failed));
         },
       )
-  start_asked (Err (CollectFault.Busy name)) says is_met still stays asked = unstarted tells dir x y s now target m n (still (inl tt)) (stays refl) result (Reply.Busy name) says.0 tt (meets met commits.met_nothing (says.1 ∙ is_met) (refl, refl, refl))
-  start_asked (Err (CollectFault.Limit limit)) says is_met still stays asked = unstarted tells dir x y s now target m n (still (inl tt)) (stays refl) result (Reply.Limit limit) says.0 tt (meets met (met_by_start (Err (CollectFault.Limit limit))) (says.1 ∙ is_met) (refl, refl, refl))
-  start_asked (Err CollectFault.Memory) says is_met still stays asked = unstarted tells dir x y s now target m n (still (inl tt)) (stays refl) result Reply.Memory says.0 tt (meets met (met_by_start (Err CollectFault.Memory)) (says.1 ∙ is_met) (refl, refl, refl))
-  start_asked (Err CollectFault.Ground) says is_met still stays asked = unended tells dir x y s now target m n (still (inr refl)) (stays refl) result SessionEnd.Ground says.0 (meets met commits.met_nothing (says.1 ∙ is_met) (refl, refl, refl))
+  start_asked (Err (CollectFault.Busy name)) says is_met still stays asked = unstarted tells dir x y s now target m n (still (inl tt)) (stays refl) result (Reply.Busy name) says.0 tt (meets met commits.met_nothing (says.1 ∙ is_met) (refl, refl, refl, refl))
+  start_asked (Err (CollectFault.Limit limit)) says is_met still stays asked = unstarted tells dir x y s now target m n (still (inl tt)) (stays refl) result (Reply.Limit limit) says.0 tt (meets met (met_by_start (Err (CollectFault.Limit limit))) (says.1 ∙ is_met) (refl, refl, refl, refl))
+  start_asked (Err CollectFault.Memory) says is_met still stays asked = unstarted tells dir x y s now target m n (still (inl tt)) (stays refl) result Reply.Memory says.0 tt (meets met (met_by_start (Err CollectFault.Memory)) (says.1 ∙ is_met) (refl, refl, refl, refl))
+  start_asked (Err CollectFault.Ground) says is_met still stays asked = unended tells dir x y s now target m n (still (inr refl)) (stays refl) result SessionEnd.Ground says.0 (meets met commits.met_nothing (says.1 ∙ is_met) (refl, refl, refl, refl))
   start_asked (Err (CollectFault.Held place)) says is_met still stays asked = both_some (branch_name_at r place) _ _ (AskedSo tells dir x y s now (Command.Collect target) result m n) each says says
     where
       each : (name : Bytes) → (reply : Reply) × (result ≡ Ok reply) × HeldReplies name store.met met reply → (reply : Reply) × (result ≡ Ok reply) × HeldReplies name store.met met reply → AskedSo tells dir x y s now (Command.Collect target) result m n
-      each name (reply, is, inl told) other = unstarted tells dir x y s now target m n (still (inl tt)) (stays refl) result (Reply.Held name) (is ∙ ap Ok told.0) tt (meets met commits.met_nothing (told.1 ∙ is_met) (refl, refl, refl))
-      each name (reply, is, inr short) other = unstarted tells dir x y s now target m n (still (inl tt)) (stays refl) result Reply.Memory (is ∙ ap Ok short.0) tt (meets met (met_only true) short.1 (refl, refl, refl))
+      each name (reply, is, inl told) other = unstarted tells dir x y s now target m n (still (inl tt)) (stays refl) result (Reply.Held name) (is ∙ ap Ok told.0) tt (meets met commits.met_nothing (told.1 ∙ is_met) (refl, refl, refl, refl))
+      each name (reply, is, inr short) other = unstarted tells dir x y s now target m n (still (inl tt)) (stays refl) result Reply.Memory (is ∙ ap Ok short.0) tt (meets met (met_only true) short.1 (refl, refl, refl, refl))
 
 -- behind none of its replies a sweep was made
 start_unswept : (r : Repository) (before met : Met) (result : Result Reply SessionEnd) (begun : Result Hash CollectFault) → StartReplies r begun before met result → IfOk result (λ reply. ¬ IsSwept reply)
@@ -266,26 +268,27 @@ module _ (r : Repository) (before met : Met) (result : Result Reply SessionEnd) 
 
   -- a long reply is no start
   pub start_quiet : (begun : Result Hash CollectFault) → StartReplies r begun before met result → before ≡ met_by_start begun → IfOk begun (λ name. length name ≤ 32) → CountsBy result (Command.Collect target) met old new → IfOk result (QuietIfLong met old new)
-  start_quiet begun says is_met size counts = by result (unheard begun says is_met) counts (start_unswept r before met result begun says) (λ name is. whole begun size says name is)
+  start_quiet begun says is_met size counts = by result (unmet begun says is_met) counts (start_unswept r before met result begun says) (λ name is. whole begun size says name is)
     where
-      by : (result : Result Reply SessionEnd) → met.child ≡ Child.NotAsked → CountsBy result (Command.Collect target) met old new → IfOk result (λ reply. ¬ IsSwept reply) → ((name : Hash) → result ≡ Ok (Reply.Started name) → ¬ IsLong (Reply.Started name)) → IfOk result (QuietIfLong met old new)
+      by : (result : Result Reply SessionEnd) → (result ≢ Ok Reply.StartFault → MeetsNone met) → CountsBy result (Command.Collect target) met old new → IfOk result (λ reply. ¬ IsSwept reply) → ((name : Hash) → result ≡ Ok (Reply.Started name) → ¬ IsLong (Reply.Started name)) → IfOk result (QuietIfLong met old new)
       by (Ok (Reply.Started name)) none counts unswept short = λ long. absurd (short name refl long)
-      by (Ok _) none counts unswept short = λ long. (λ h. h, none, counts, unswept)
+      by (Ok Reply.StartFault) none counts unswept short = λ long. absurd (start_fault_is_short long)
+      by (Ok reply) none counts unswept short = λ long. (λ h. h, none (λ is. absurd (cc is)), counts, unswept)
       by (Err end) none counts unswept short = tt
 
-      -- no child was asked
-      unheard : (begun : Result Hash CollectFault) → StartReplies r begun before met result → before ≡ met_by_start begun → met.child ≡ Child.NotAsked
-      unheard (Ok name) says is_met = ap (λ (k : Met). k.child) (says.1 ∙ is_met)
-      unheard (Err (CollectFault.Held place)) says is_met = both_some (branch_name_at r place) _ _ (met.child ≡ Child.NotAsked) (λ own h again. held_unheard own h.0 h.2) says says
+      -- nothing was met of a child, but of a start that failed
+      unmet : (begun : Result Hash CollectFault) → StartReplies r begun before met result → before ≡ met_by_start begun → result ≢ Ok Reply.StartFault → MeetsNone met
+      unmet (Ok name) says is_met not = meets met (met_by_start (Ok name)) (says.1 ∙ is_met) (refl, refl, refl, refl)
+      unmet (Err (CollectFault.Held place)) says is_met not = both_some (branch_name_at r place) _ _ (MeetsNone met) (λ own h again. held_unmet own h.0 h.2) says says
         where
-          held_unheard : (own : Bytes) (reply : Reply) → HeldReplies own before met reply → met.child ≡ Child.NotAsked
-          held_unheard own reply (inl told) = ap (λ (k : Met). k.child) (told.1 ∙ is_met)
-          held_unheard own reply (inr short) = ap (λ (k : Met). k.child) short.1
-      unheard (Err (CollectFault.Limit limit)) says is_met = ap (λ (k : Met). k.child) (says.1 ∙ is_met)
-      unheard (Err CollectFault.Start) says is_met = ap (λ (k : Met). k.child) (says.1 ∙ is_met)
-      unheard (Err CollectFault.Memory) says is_met = ap (λ (k : Met). k.child) (says.1 ∙ is_met)
-      unheard (Err (CollectFault.Busy name)) says is_met = ap (λ (k : Met). k.child) (says.1 ∙ is_met)
-      unheard (Err CollectFault.Ground) says is_met = ap (λ (k : Met). k.child) (says.1 ∙ is_met)
+          held_unmet : (own : Bytes) (reply : Reply) → HeldReplies own before met reply → MeetsNone met
+          held_unmet own reply (inl told) = meets met (met_by_start (Err (CollectFault.Held place))) (told.1 ∙ is_met) (refl, refl, refl, refl)
+          held_unmet own reply (inr short) = meets met (met_only true) short.1 (refl, refl, refl, refl)
+      unmet (Err (CollectFault.Limit limit)) says is_met not = meets met (met_by_start (Err (CollectFault.Limit limit))) (says.1 ∙ is_met) (refl, refl, refl, refl)
+      unmet (Err CollectFault.Start) says is_met not = absurd (not says.0)
+      unmet (Err CollectFault.Memory) says is_met not = meets met (met_by_start (Err CollectFault.Memory)) (says.1 ∙ is_met) (refl, refl, refl, refl)
+      unmet (Err (CollectFault.Busy name)) says is_met not = meets met (met_by_start (Err (CollectFault.Busy name))) (says.1 ∙ is_met) (refl, refl, refl, refl)
+      unmet (Err CollectFault.Ground) says is_met not = meets met (met_by_start (Err CollectFault.Ground)) (says.1 ∙ is_met) (refl, refl, refl, refl)
 
       other : {X : Type 0} (reply : Reply) (name : Hash) → result ≡ Ok reply → result ≡ Ok (Reply.Started name) → ¬ HasStarted (Ok reply) → X
       other reply name is started never = absurd (never (subst HasStarted (sym started ∙ is) tt))
@@ -392,6 +395,26 @@ module _ (tells : Bool) (dir : Bytes) (x y : spawn.Told) (s : Session) (store : 
   no_kill : done ≢ Ok Cancelled.Orphan → met.kill_failed ≡ false
   no_kill not = ap (λ (k : Met). k.kill_failed) is_met ∙ kill_so done not
 
+  kill_of : done ≡ Ok Cancelled.Orphan → met.kill_failed ≡ true
+  kill_of is = ap (λ (k : Met). k.kill_failed) (is_met ∙ ap (λ (d : Result Cancelled CancelFault). met_by_cancel d left) is)
+
+  -- behind a fault no sweep was made
+  left_never : (done : Result Cancelled CancelFault) → IsErr done → (met_by_cancel done left).left ≡ 0
+  left_never (Ok x) failed = absurd (cc failed)
+  left_never (Err fault) failed = refl
+
+  none_unswept : IsErr done → met.left ≡ 0
+  none_unswept failed = ap (λ (k : Met). k.left) is_met ∙ left_never done failed
+
+  cut_short : IsErr (cancel_answer done) → (met.start_failed ≡ false) × (met.kill_failed ≡ false) × (met.left ≡ 0)
+  cut_short = by done refl
+    where
+      by : (x : Result Cancelled CancelFault) → done ≡ x → IsErr (cancel_answer x) → (met.start_failed ≡ false) × (met.kill_failed ≡ false) × (met.left ≡ 0)
+      by (Ok Cancelled.Done) is failed = absurd (cc failed)
+      by (Ok Cancelled.Orphan) is failed = absurd (cc failed)
+      by (Err CancelFault.Idle) is failed = absurd (cc failed)
+      by (Err CancelFault.Ground) is failed = (no_start, no_kill (λ orphan. absurd (cc (sym is ∙ orphan))), none_unswept (subst IsErr (sym is) refl))
+
   never_started : (done : Result Cancelled CancelFault) → ¬ HasStarted (cancel_answer done)
   never_started (Ok Cancelled.Done) has = has
   never_started (Ok Cancelled.Orphan) has = has
@@ -412,7 +435,7 @@ module _ (tells : Bool) (dir : Bytes) (x y : spawn.Told) (s : Session) (store : 
 
   -- none runs
   pub idle_asked : done ≡ Err CancelFault.Idle → y ≡ x → n ≡ m → Over
-  idle_asked is same still = nothing_asked tells dir x y s (record s { store = store; met = met }) Command.Cancel (cancel_answer done) m n same still (never_started done) (λ cancelled. absurd (cc (sym (done_of done cancelled) ∙ is))) (no_start, no_kill (λ orphan. absurd (cc (sym orphan ∙ is))), no_child) (goes_none (cancel_answer done) [] s.store.held.collection store.held.collection over) (never_sliced done s.store.held.collection store.held.collection)
+  idle_asked is same still = nothing_asked tells dir x y s (record s { store = store; met = met }) Command.Cancel (cancel_answer done) m n same still (never_started done) (λ cancelled. absurd (cc (sym (done_of done cancelled) ∙ is))) (no_start, no_kill (λ orphan. absurd (cc (sym orphan ∙ is))), no_child, none_unswept (subst IsErr (sym is) refl)) (goes_none (cancel_answer done) [] s.store.held.collection store.held.collection over) (never_sliced done s.store.held.collection store.held.collection)
 
   -- its child had been reaped
   pub kept_asked : (c : Collection) → s.store.held.collection ≡ Some c → IsSome c.exit → done ≢ Ok Cancelled.Orphan → y ≡ x → n ≡ m → Over
@@ -427,17 +450,18 @@ module _ (tells : Bool) (dir : Bytes) (x y : spawn.Told) (s : Session) (store : 
       sliced = never_sliced done s.store.held.collection store.held.collection;
       running = λ is. absurd (cc (sym no_child ∙ is));
       not_running = λ _. ap (λ (k : SpawnCounts). k.running) still;
-      waits = (let e = ap (λ (k : SpawnCounts). k.waits) still in omega (arith, e));
+      waits = inl (ap (λ (k : SpawnCounts). k.waits) still);
       no_wait = λ _. ap (λ (k : SpawnCounts). k.waits) still;
       waited = λ is. absurd (cc is);
-      reaps = (let e = ap (λ (k : SpawnCounts). k.reaps) still in omega (arith, e));
+      reaps = inl (ap (λ (k : SpawnCounts). k.reaps) still);
       none_reaped = λ not. absurd (not tt);
       heard = λ reaped is. absurd (cc (sym no_child ∙ is));
-      unheard = λ is. absurd (cc (sym no_child ∙ is));
       cancelled = λ is. inr (subst (λ (o : Option Collection). IsSome (exit_kept (phase_of o))) (sym runs) kept);
-      spawn_faults = (let e = ap (λ (k : SpawnCounts). k.spawn_faults) still in omega (arith, e));
+      unheard = λ is. absurd (cc (sym no_child ∙ is));
       start = λ failed. never_failed met.start_failed no_start failed;
       kill = λ failed. never_failed met.kill_failed (no_kill not) failed;
+      no_fault = λ _ _ _. ap (λ (k : SpawnCounts). k.spawn_faults) still;
+      cut = cut_short;
     },
   )
 
@@ -454,22 +478,20 @@ module _ (tells : Bool) (dir : Bytes) (x y : spawn.Told) (s : Session) (store : 
       sliced = never_sliced done s.store.held.collection store.held.collection;
       running = λ is. absurd (cc (sym no_child ∙ is));
       not_running = λ _. counts.running;
-      waits = omega (arith, counts.waits);
+      waits = inl counts.waits;
       no_wait = λ _. counts.waits;
       waited = λ is. absurd (cc is);
-      reaps = counts.reaps_stay;
+      reaps = inr counts.reaps;
       none_reaped = λ not. absurd (not tt);
       heard = λ reaped is. absurd (cc (sym no_child ∙ is));
+      cancelled = λ is. inl counts.reaps;
       unheard = λ is. absurd (cc (sym no_child ∙ is));
-      cancelled = λ is. inl reaped_one;
-      spawn_faults = counts.spawn_faults;
       start = λ failed. never_failed met.start_failed no_start failed;
       kill = λ failed. never_failed met.kill_failed (no_kill (λ orphan. absurd (cc (killed.orphan.0 orphan)))) failed;
+      no_fault = λ _ _ _. counts.spawn_faults;
+      cut = cut_short;
     },
   )
-    where
-      reaped_one : Rose m.reaps n.reaps
-      reaped_one = subst (Rose m.reaps) (sym counts.reaps) (rose_counted m.reaps)
   killed_asked c (None, killed, told, counts) = (
     [],
     [],
@@ -481,17 +503,18 @@ module _ (tells : Bool) (dir : Bytes) (x y : spawn.Told) (s : Session) (store : 
       sliced = never_sliced done s.store.held.collection store.held.collection;
       running = λ is. absurd (cc (sym no_child ∙ is));
       not_running = λ _. counts.running;
-      waits = omega (arith, counts.waits);
+      waits = inl counts.waits;
       no_wait = λ _. counts.waits;
       waited = λ is. absurd (cc is);
-      reaps = omega (arith, counts.reaps);
+      reaps = inl counts.reaps;
       none_reaped = λ not. absurd (not tt);
       heard = λ reaped is. absurd (cc (sym no_child ∙ is));
-      unheard = λ is. absurd (cc (sym no_child ∙ is));
       cancelled = λ is. absurd (cc (sym (done_of done is) ∙ killed.orphan.1 refl));
-      spawn_faults = counts.spawn_faults;
+      unheard = λ is. absurd (cc (sym no_child ∙ is));
       start = λ failed. never_failed met.start_failed no_start failed;
-      kill = λ failed. counts.cause refl;
+      kill = λ failed. counts.spawn_faults;
+      no_fault = λ _ _ kill. absurd (cc (sym (kill_of (killed.orphan.1 refl)) ∙ kill));
+      cut = cut_short;
     },
   )
 
@@ -527,7 +550,7 @@ plain_counts Command.Cancel (Ok reply) met old new handles counts = absurd handl
 plain_counts _ (Ok reply) met old new handles counts = counts
 
 pub plain_quiet : (result : Result Reply SessionEnd) (met : Met) (old new : Noted) → IfOk result TellsNone → MeetsNone met → Counts counted_end result old new → IfOk result (QuietIfLong met old new)
-plain_quiet (Ok reply) met old new none meets counts = λ long. (tells_start (Ok reply) none, meets.2, counts, tells_unswept reply none)
+plain_quiet (Ok reply) met old new none meets counts = λ long. (tells_start (Ok reply) none, meets, counts, tells_unswept reply none)
 plain_quiet (Err end) met old new none meets counts = tt
 
 -- ---- lines
@@ -552,11 +575,12 @@ lined_asked tells dir x y s s' met command line result m n served one (jobs, end
       reaps = asked.reaps;
       none_reaped = asked.none_reaped;
       heard = asked.heard;
-      unheard = asked.unheard;
       cancelled = asked.cancelled;
-      spawn_faults = asked.spawn_faults;
+      unheard = asked.unheard;
       start = asked.start;
       kill = asked.kill;
+      no_fault = asked.no_fault;
+      cut = asked.cut;
     });
     none = λ none. absurd (none command served);
     goes_on = asked.goes_on;
@@ -627,18 +651,19 @@ module _ (tells : Bool) (dir : Bytes) (x y : spawn.Told) (s s' : Session) (met :
           goes_on = asked.goes_on;
           sliced = tt;
           running = λ is. absurd (cc is);
-          not_running = λ _. asked.not_running (λ is. absurd (cc (sym (quiet long).1 ∙ is)));
+          not_running = λ _. asked.not_running (λ is. absurd (cc (sym (quiet long).1.2 ∙ is)));
           waits = asked.waits;
           no_wait = asked.no_wait;
-          waited = asked.waited;
+          waited = λ is either. asked.waited is (elim either [ inl some ↦ inl some | inr fault ↦ absurd (cc fault) ]);
           reaps = asked.reaps;
           none_reaped = asked.none_reaped;
           heard = λ reaped is. absurd (cc is);
-          unheard = λ is. absurd (cc is);
           cancelled = λ is. absurd (cc is);
-          spawn_faults = asked.spawn_faults;
+          unheard = λ is. absurd (cc is);
           start = λ failed. absurd (cc failed);
           kill = λ failed. absurd (cc failed);
+          no_fault = λ _ _ _. asked.no_fault (λ is. absurd (cc (sym (quiet long).1.2 ∙ is))) (quiet long).1.0 (quiet long).1.1;
+          cut = λ failed. absurd (cc failed);
         });
         none = spawns.asked.none;
         goes_on = spawns.asked.goes_on;

@@ -17,6 +17,7 @@ use Rattle.ip_spec.specs.Repository.{Repository, head}
 use Rattle.ip_spec.specs.Machine.{Phase, Work as MachineWork, State, Limit}
 use Rattle.ip_spec.specs.Step.{Refused, ◌>>◌, ◌>>=◌, refuse_if, or_refused, Turned, below, present, unless_some, not_leaving, resolve, room_for_branch, with_branch, is_short, Step, outcome, answer}
 use Rattle.ip_spec.specs.View.{View}
+use Rattle.ip_image.specs.Pending.{NothingPending}
 use Rattle.ip_held.specs.declared.held.Held.{Held}
 use Rattle.ip_held.specs.declared.fault.StoreFault.{StoreFault}
 use Rattle.ip_held.specs.Changes.{Changes, HasAnswer}
@@ -25,6 +26,7 @@ use Rattle.ip_held.specs.Answers.{fault_reply, Turns}
 use Rattle.ip_held.specs.declared.collection.Collection.{Collection}
 use Rattle.ip_appends.specs.Naming.{branch_reply, removed_reply, AnswersBranch, AnswersSet, AnswersRemove, without_branch}
 use Rattle.ip_held.specs.Held.{IsOf, Holds}
+use Rattle.ip_held.specs.Slots.{KeepsSlots}
 use Rattle.ip_held.specs.Work.{AreParents, IsAt, work_at, session}
 use Rattle.ip_held.specs.Views.{IsViewAfter}
 use Rattle.ip_session.specs.declared.session.Session.{Session}
@@ -171,7 +173,7 @@ pub serves : (r : Repository) (phase : Phase) (command : Command) (met : Met) (r
 serves r phase command met reply store s parents A = (A.after, (A.tables, A.parents s.work.least s.work.parents parents))
 
 module _ (a b : Told) (s : Session) (store : Store) (met : Met) (r : Repository) (v : View) (here : IsWorking a s r v) (name : Bytes) (target : Target) (n : ℕ) (named : resolve r target ≡ Ok n) (made : Result (Unit {0}) StoreFault) (phase_is : store.held.collection ≡ s.store.held.collection)
-    (does : Changes r (with_branch r name n) made store.held a b) (works : HasAnswer made → (q : Repository) → Holds store.held b q → q.floor ≡ r.floor → AreParents q s.work.least s.work.parents → IsAt b store.held q s.work v) where
+    (does : Changes r (with_branch r name n) made store.held a b) (slots : NothingPending a → KeepsSlots a b) (works : HasAnswer made → (q : Repository) → Holds store.held b q → q.floor ≡ r.floor → AreParents q s.work.least s.work.parents → IsAt b store.held q s.work v) where
   abbrev setting : Command
   setting = Command.Branch name target
 
@@ -187,11 +189,11 @@ module _ (a b : Told) (s : Session) (store : Store) (met : Met) (r : Repository)
 
       by : (made : Result (Unit {0}) StoreFault) → IfSome (branch_reply made) (AnswersSet r (phase_of s.store.held.collection) name n store.met store.held) → (HasAnswer made → (q : Repository) → Holds store.held b q → AreParents q s.work.least s.work.parents → IsAt b store.held q s.work v)
           → Changes r set_to made store.held a b → IfSome (branch_reply made) (Went a b s store s.work r set_to v here setting whole)
-      by (Ok u) A stays does = done_so a b s store s.work r set_to v here setting whole u Reply.Accepted tt ok_is_short (turn_of b s store r v setting Reply.Accepted phase_is refl here.lawful.parents (A target named) (stays tt)) does
+      by (Ok u) A stays does = done_so a b s store s.work r set_to v here setting whole u Reply.Accepted tt ok_is_short (turn_of b s store r v setting Reply.Accepted phase_is refl here.lawful.parents (A target named) (stays tt)) does slots
       by (Err fault) A stays does = fault_so a b s store s.work r set_to v here setting whole fault (IfSome_then (fault_reply fault) A (λ reply x has. turn_of b s store r v setting reply phase_is refl here.lawful.parents (x target named) (stays has))) does
 
   pub set_cut : met ≡ met_only false → not_leaving_in (phase_of s.store.held.collection) (Some n) ≡ Ok tt → room_for_branch r name ≡ Ok tt → CutBy unasked a b s (record s { store = store; met = met }) r v setting
-  set_cut e staying room = cut_so a b s store s.work r set_to v here setting (whole_set r (phase_of s.store.held.collection) (work_at s.work v) name target n named) made met e refl (roomy r (phase_of s.store.held.collection) (work_at s.work v) name target n named staying room) does
+  set_cut e staying room = cut_so a b s store s.work r set_to v here setting (whole_set r (phase_of s.store.held.collection) (work_at s.work v) name target n named) made met e refl (roomy r (phase_of s.store.held.collection) (work_at s.work v) name target n named staying room) does slots
 
 pub has_answer_set : (made : Result (Unit {0}) StoreFault) (reply : Reply) → branch_reply made ≡ Some reply → HasAnswer made
 has_answer_set (Ok done) reply e = tt
@@ -241,7 +243,7 @@ module _ (r : Repository) (phase : Phase) (w : MachineWork) (name : Bytes) where
   found None h = absurd (cc h)
   found (Some n) h = refl
 
-module _ (a b : Told) (s : Session) (store : Store) (met : Met) (r : Repository) (v : View) (here : IsWorking a s r v) (name : Bytes) (made : Result Bool StoreFault) (phase_is : store.held.collection ≡ s.store.held.collection) (does : Changes r (without_branch r name) made store.held a b)
+module _ (a b : Told) (s : Session) (store : Store) (met : Met) (r : Repository) (v : View) (here : IsWorking a s r v) (name : Bytes) (made : Result Bool StoreFault) (phase_is : store.held.collection ≡ s.store.held.collection) (does : Changes r (without_branch r name) made store.held a b) (slots : NothingPending a → KeepsSlots a b)
     (works : HasAnswer made → (q : Repository) → Holds store.held b q → q.floor ≡ r.floor → AreParents q s.work.least s.work.parents → IsAt b store.held q s.work v) where
   abbrev removing : Command
   removing = Command.BranchRm name
@@ -269,13 +271,13 @@ module _ (a b : Told) (s : Session) (store : Store) (met : Met) (r : Repository)
       by : (made : Result Bool StoreFault) → IfSome (removed_reply name made) (AnswersRemove r (phase_of s.store.held.collection) name store.met store.held) → (made ≡ Ok false → b ≡ a)
           → (HasAnswer made → (q : Repository) → Holds store.held b q → AreParents q s.work.least s.work.parents → IsAt b store.held q s.work v) → Changes r removed_to made store.held a b
           → IfSome (removed_reply name made) (Went a b s store s.work r removed_to v here removing whole)
-      by (Ok true) A absent stays_so does = done_so a b s store s.work r removed_to v here removing whole true Reply.Accepted tt ok_is_short (turn_of b s store r v removing Reply.Accepted phase_is refl here.lawful.parents A (stays_so tt)) does
+      by (Ok true) A absent stays_so does = done_so a b s store s.work r removed_to v here removing whole true Reply.Accepted tt ok_is_short (turn_of b s store r v removing Reply.Accepted phase_is refl here.lawful.parents A (stays_so tt)) does slots
       by (Ok false) A absent stays_so does = refused_so a b s store s.work r removed_to v here removing whole (Reply.NoBranch name) (λ h. h) (turn_of b s store r v removing (Reply.NoBranch name) phase_is refl here.lawful.parents A (stays_so tt)) (as_before A (absent refl) does)
       by (Err fault) A absent stays_so does = fault_so a b s store s.work r removed_to v here removing whole fault (IfSome_then (fault_reply fault) A (λ reply x has. turn_of b s store r v removing reply phase_is refl here.lawful.parents x (stays_so has))) does
 
   pub remove_cut : met ≡ met_only false → IsSome (head r name) → CutBy unasked a b s (record s { store = store; met = met }) r v removing
   remove_cut e there = cut_so a b s store s.work r removed_to v here removing (whole_removed r (phase_of s.store.held.collection) (work_at s.work v) name) made met e refl
-      (ap (λ (t : Turned). t.1.repository) (removed_turn r (phase_of s.store.held.collection) (work_at s.work v) name (met_only false)) ∙ found r (phase_of s.store.held.collection) (work_at s.work v) name (head r name) there) does
+      (ap (λ (t : Turned). t.1.repository) (removed_turn r (phase_of s.store.held.collection) (work_at s.work v) name (met_only false)) ∙ found r (phase_of s.store.held.collection) (work_at s.work v) name (head r name) there) does slots
 
 pub has_answer_removed : (name : Bytes) (made : Result Bool StoreFault) (reply : Reply) → removed_reply name made ≡ Some reply → HasAnswer made
 has_answer_removed name (Ok true) reply e = tt

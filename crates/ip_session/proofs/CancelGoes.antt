@@ -30,6 +30,7 @@ use Rattle.ip_held.specs.Work.{AreParents, work_at}
 use Rattle.ip_held.proofs.Apart.{for_more}
 use Rattle.ip_held.proofs.Stepping.{same_holds, stays_still}
 use Rattle.ip_held.proofs.Works.{works_stay}
+use Rattle.ip_held.proofs.SlotLaws.{slots_none}
 use Rattle.ip_session.specs.declared.session.Session.{Session}
 use Rattle.ip_session.specs.Placing.{PlacedBy}
 use Rattle.ip_session.specs.Session.{unasked, IsServing, IsWorking, state_in, met_only, conditions_of, IsLong, attempt_of, hears, ChangesBy, ChangedBy, TouchedBy, GoesBy, CutBy}
@@ -118,6 +119,7 @@ module _ (a b : Told) (s : Session) (store : Store) (met : Met) (left : ℕ) (do
       said = (only_nowhere a NoFile).said;
       space = λ order none slot live. nothing_space a a (only_nowhere a NoFile) order slot live;
       atomic = λ order t late le. absurd (omega (arith, late, le));
+      slots = λ order. slots_none a;
       nothing_pending = λ order. order;
       spared = λ long. absurd (idle_is_short long);
       still = λ long. absurd (idle_is_short long);
@@ -150,6 +152,7 @@ module _ (a b : Told) (s : Session) (store : Store) (met : Met) (left : ℕ) (do
             said = M.only.said;
             space = λ order none slot live. M.space order slot live;
             atomic = λ order t late le. let at_it = M.recovers order t late le in record { stands = λ image possible. inl (at_it.stands image possible); flushed = at_it.flushed };
+            slots = M.slots;
             nothing_pending = M.nothing_pending;
             spared = λ long. absurd (short long);
             still = λ long. absurd (short long);
@@ -179,6 +182,7 @@ module _ (a b : Told) (s : Session) (store : Store) (met : Met) (left : ℕ) (do
             said = M.only.said;
             space = λ order none slot live. M.space order slot live;
             atomic = λ order moment late le. let at_it = M.recovers order moment late le in record { stands = λ image possible. inl (at_it.stands image possible); flushed = at_it.flushed };
+            slots = M.slots;
           }
 
       pub cancel_cut : (x : Result Cancelled CancelFault) → store.met ≡ met_by_cancel x left → OnErr (cancel_answer x) (CutBy unasked a b s after_it r v Command.Cancel)

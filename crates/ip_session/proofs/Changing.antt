@@ -1,7 +1,7 @@
 -- Which files a command changes that may have to do with an attempt.
 --     stays_only, stays_beside, stays_of      an attempt that was settled stays so.      changed_by      these files alone, whether there is an attempt or not.      nothing_by      none
 --     none_durable      a command that is not durable did nothing that is.      keeps_nothing      no file of an attempt was written.      changed_so, touched_so      by a durable command.      nothing_only      nothing changed, by whatever line
---     still_space      while no file changes the bytes of the live slot's records stay, whatever a crash leaves.      nothing_space      so where nothing changed
+--     still_space      while no file changes the bytes of the live slot's records stay, whatever a crash leaves.      nothing_space, slots_same      so where nothing changed, and so is which slot is live
 use Rattle.std.proofs.Common.{Bool, ◌≡◌, ◌≢◌, ℕ, true, false, refl, sym, ◌∙◌, subst, Option, Some, None}
 use Rattle.ip_ground.specs.declared.names.FileName.{FileName}
 use Rattle.ip_ground.specs.declared.names.FileName.TheVariants.{Chunk, Mapping, Prefix}
@@ -11,16 +11,20 @@ use Rattle.ip_ground.proofs.Spans.{lending_now, only_more}
 use Rattle.ip_spec.specs.declared.command.Command.{Command}
 use Rattle.ip_spec.specs.declared.reply.Reply.{Reply}
 use Rattle.ip_spec.specs.Path.{Bytes}
+use Rattle.ip_spec.specs.Repository.{Repository}
 use Rattle.ip_image.specs.declared.slot.Slot.{Slot}
 use Rattle.ip_image.specs.Pending.{HasLive, NothingPending, KeepsSpace}
 use Rattle.ip_image.specs.Virtual.{chunk_of, chunk_byte}
 use Rattle.ip_held.specs.declared.collection.Collection.{Collection}
 use Rattle.ip_held.specs.declared.held.Held.{Held}
 use Rattle.ip_publish.specs.Publishing.{MayChange}
+use Rattle.ip_held.specs.Held.{Holds}
+use Rattle.ip_held.specs.Slots.{KeepsSlots}
 use Rattle.ip_held.specs.Sweeping.{ChangesFor, KeepsFiles}
 use Rattle.ip_held.proofs.Apart.{for_only}
 use Rattle.ip_collects.proofs.Ended.{ends_only}
 use Rattle.ip_held.proofs.KeptFiles.{keeps_store}
+use Rattle.ip_held.proofs.SlotLaws.{slots_only}
 use Rattle.ip_session.specs.Session.{attempt_of, hears, is_durable, IsDurable, ChangesBy, ChangedBy, TouchedBy, OnlyIn, StaysSettled}
 
 pub keeps_nothing : (a b : Told) → ChangesOnly NoFile a b → KeepsFiles a b
@@ -88,6 +92,10 @@ still_space a b stays pending u has t after le image possible =
       mapping = λ some. let pair = pending.pair u has some in pair.mapping (image (Mapping u.live)) ((stays (Mapping u.live)).left pair.firm_mapping t (image (Mapping u.live)) after le (possible (Mapping u.live)));
       prefix = λ some. let pair = pending.pair u has some in pair.prefix (image (Prefix u.live)) ((stays (Prefix u.live)).left pair.firm_prefix t (image (Prefix u.live)) after le (possible (Prefix u.live)));
     }
+
+-- which slot is live then
+pub slots_same : (store : Held) (r : Repository) (a b : Told) → Holds store a r → ChangesOnly NoFile a b → KeepsSlots a b
+slots_same store r a b holds only = slots_only a b holds.kept NoFile (λ none. none) only
 
 pub nothing_space : (a b : Told) → ChangesOnly NoFile a b → NothingPending a → (u : Slot) → HasLive u a.held → KeepsSpace u a b
 nothing_space a b only = still_space a b (λ file. only.others file (λ none. none))

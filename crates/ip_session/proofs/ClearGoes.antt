@@ -1,7 +1,7 @@
 -- What a command leaves cleared away.
 --     still_clear      where no file changed what was cleared is so still.      still_cleared      so by a store with the same slot
 --     sweeps_none, sweeps_never      no sweep was made behind it.      keeps_by      so only what was cleared stays so
---     cancel_settles      the attempt of a collection that was given up, which ran (cancel_runs, if_there).      clear_same      what was unswept is so still.      read_clear      a command that may only read.      start_clear, finish_clear, cancel_clear      what the store says of a collection
+--     cancel_settles      the attempt of a collection that was given up, which ran (cancel_runs, cancel_ran, if_there).      clear_same      what was unswept is so still.      read_clear      a command that may only read.      start_clear, finish_clear, cancel_clear      what the store says of a collection
 --     lined_clear      the line that spells a command.      quiet_clear      a line with a reply behind no sweep
 use Rattle.std.proofs.Common.{◌≡◌, ℕ, Bool, refl, sym, ap, ◌∙◌, subst, Option, Some, None, Ok, Err, IsTrue}
 use Rattle.std.specs.Prelude.{◌↔◌, Result, IfOk, IfSome, IsErrOf, IsSomeAnd}
@@ -33,6 +33,8 @@ use Rattle.ip_collects.specs.declared.finishing.Rejection.{Rejection}
 use Rattle.ip_collects.specs.declared.starting.CollectFault.{CollectFault}
 use Rattle.ip_held.specs.declared.held.Held.{Held}
 use Rattle.ip_held.specs.Clear.{IsClearTo, KeepsClear, ClearsAll}
+use Rattle.ip_held.specs.Sweeping as sweeping
+use Rattle.ip_held.specs.Sweeping.{AllBut}
 use Rattle.ip_spec.specs.Step.{IsSwept}
 use Rattle.ip_collects.specs.Cancelling.{Cancels, unswept_after}
 use Rattle.ip_collects.specs.Finishing as finish
@@ -96,6 +98,7 @@ keeps_by a b s s' command reply not keeps same = record {
   all = λ sweeps. absurd (sweeps_none command reply not sweeps);
   unswept = λ _. same;
   behind = λ sweeps. absurd (sweeps_none command reply not sweeps);
+  all_but = λ sweeps. absurd (sweeps_none command reply not sweeps);
   settled = λ sweeps. absurd (sweeps_none command reply not sweeps);
 }
 
@@ -126,6 +129,10 @@ module _ (a b : Told) (s : Session) (store : Store) (met : Met) where
     abbrev pub Settles : Type 0
     Settles = IsSomeAnd s.store.held.collection (λ c. (pair : Image) × IsSettledAs b c.job.attempt pair)
 
+    -- of what the sweep was to remove all is gone but so many files
+    abbrev pub Remains : Type 0
+    Remains = AllBut (sweeping.IsSwept store.held.slot s.store.held.unswept) store.met.left b b
+
     left_is : store.met.left ≡ met.left
     left_is = ap (λ (m : Met). m.left) (sym is_met)
 
@@ -136,46 +143,48 @@ module _ (a b : Told) (s : Session) (store : Store) (met : Met) where
       all = λ sweeps. absurd (sweeps_never command reply not sweeps);
       unswept = λ _. same;
       behind = λ sweeps. absurd (sweeps_never command reply not sweeps);
+      all_but = λ sweeps. absurd (sweeps_never command reply not sweeps);
       settled = λ sweeps. absurd (sweeps_never command reply not sweeps);
     }
 
     -- one was
     swept_by : (command : Command) (reply : Reply) (Swept : Type 0) → MayReap command → IsSwept reply → Swept → KeepsClear s.store.held store.held a b × ClearsAll Swept store.met.left s.store.held store.held a b
-        → store.held.unswept ≡ unswept_behind store.met.left store.held.slot s.store.held.unswept → Settles → Clears command reply
-    swept_by command reply Swept may is swept clear behind settled = record {
+        → store.held.unswept ≡ unswept_behind store.met.left store.held.slot s.store.held.unswept → Settles → Remains → Clears command reply
+    swept_by command reply Swept may is swept clear behind settled remains = record {
       keeps = clear.0;
       all = λ sweeps none. clear.1 swept (left_is ∙ none);
       unswept = λ not. absurd (not (sweeps_it command reply may is));
       behind = λ sweeps. behind ∙ ap (λ (k : ℕ). unswept_behind k store.held.slot s.store.held.unswept) left_is;
+      all_but = λ sweeps. subst (λ (k : ℕ). AllBut (sweeping.IsSwept store.held.slot s.store.held.unswept) k b b) left_is remains;
       settled = λ sweeps. settled;
     }
 
     -- the reply tells whether a sweep was made
     pub finish_clear : (command : Command) (looked : Result Looked FinishFault) → MayReap command → (HasAnswer looked → KeepsClear s.store.held store.held a b × ClearsAll (IsSweptBehind looked) store.met.left s.store.held store.held a b)
-        → store.held.unswept ≡ finish.unswept_by looked store.met.left store.held.slot s.store.held.unswept → (IsSweptBehind looked → Settles) → IfOk (look_answer looked) (Clears command)
-    finish_clear command looked may clear behind settled = by looked clear behind settled
+        → store.held.unswept ≡ finish.unswept_by looked store.met.left store.held.slot s.store.held.unswept → (IsSweptBehind looked → Settles) → (IsSweptBehind looked → Remains) → IfOk (look_answer looked) (Clears command)
+    finish_clear command looked may clear behind settled remains = by looked clear behind settled remains
       where
         by : (looked : Result Looked FinishFault) → (HasAnswer looked → KeepsClear s.store.held store.held a b × ClearsAll (IsSweptBehind looked) store.met.left s.store.held store.held a b)
-            → store.held.unswept ≡ finish.unswept_by looked store.met.left store.held.slot s.store.held.unswept → (IsSweptBehind looked → Settles) → IfOk (look_answer looked) (Clears command)
-        by (Ok Looked.Running) clear behind settled = unswept_by command Reply.Running ⊥ (λ none. none) (clear tt) behind
-        by (Ok (Looked.Checking left)) clear behind settled = unswept_by command (Reply.Checking left) ⊥ (λ none. none) (clear tt) behind
-        by (Ok (Looked.Collected collected)) clear behind settled = swept_by command (Reply.Collected collected.floor collected.left) (Unit {0}) may tt tt (clear tt) behind (settled tt)
-        by (Err FinishFault.Idle) clear behind settled = unswept_by command Reply.Idle ⊥ (λ none. none) (clear tt) behind
-        by (Err FinishFault.Wait) clear behind settled = unswept_by command Reply.WaitFault ⊥ (λ none. none) (clear tt) behind
-        by (Err (FinishFault.Rejected (Rejection.Exit exit))) clear behind settled = swept_by command (Reply.RejectedExit exit) (Unit {0}) may tt tt (clear tt) behind (settled tt)
-        by (Err (FinishFault.Rejected (Rejection.Differs difference))) clear behind settled = swept_by command (Reply.Rejected difference) (Unit {0}) may tt tt (clear tt) behind (settled tt)
-        by (Err (FinishFault.Limit limit)) clear behind settled = unswept_by command (Reply.Limit limit) ⊥ (λ none. none) (clear tt) behind
-        by (Err FinishFault.Memory) clear behind settled = unswept_by command Reply.Memory ⊥ (λ none. none) (clear tt) behind
-        by (Err FinishFault.Ground) clear behind settled = tt
-        by (Err (FinishFault.Damaged at)) clear behind settled = tt
+            → store.held.unswept ≡ finish.unswept_by looked store.met.left store.held.slot s.store.held.unswept → (IsSweptBehind looked → Settles) → (IsSweptBehind looked → Remains) → IfOk (look_answer looked) (Clears command)
+        by (Ok Looked.Running) clear behind settled remains = unswept_by command Reply.Running ⊥ (λ none. none) (clear tt) behind
+        by (Ok (Looked.Checking left)) clear behind settled remains = unswept_by command (Reply.Checking left) ⊥ (λ none. none) (clear tt) behind
+        by (Ok (Looked.Collected collected)) clear behind settled remains = swept_by command (Reply.Collected collected.floor collected.left) (Unit {0}) may tt tt (clear tt) behind (settled tt) (remains tt)
+        by (Err FinishFault.Idle) clear behind settled remains = unswept_by command Reply.Idle ⊥ (λ none. none) (clear tt) behind
+        by (Err FinishFault.Wait) clear behind settled remains = unswept_by command Reply.WaitFault ⊥ (λ none. none) (clear tt) behind
+        by (Err (FinishFault.Rejected (Rejection.Exit exit))) clear behind settled remains = swept_by command (Reply.RejectedExit exit) (Unit {0}) may tt tt (clear tt) behind (settled tt) (remains tt)
+        by (Err (FinishFault.Rejected (Rejection.Differs difference))) clear behind settled remains = swept_by command (Reply.Rejected difference) (Unit {0}) may tt tt (clear tt) behind (settled tt) (remains tt)
+        by (Err (FinishFault.Limit limit)) clear behind settled remains = unswept_by command (Reply.Limit limit) ⊥ (λ none. none) (clear tt) behind
+        by (Err FinishFault.Memory) clear behind settled remains = unswept_by command Reply.Memory ⊥ (λ none. none) (clear tt) behind
+        by (Err FinishFault.Ground) clear behind settled remains = tt
+        by (Err (FinishFault.Damaged at)) clear behind settled remains = tt
 
     pub cancel_clear : (done : Result Cancelled CancelFault) → (¬ IsErrOf done CancelFault.Ground → KeepsClear s.store.held store.held a b × ClearsAll (done ≡ Ok Cancelled.Done) store.met.left s.store.held store.held a b)
-        → store.held.slot ≡ s.store.held.slot → store.held.unswept ≡ unswept_after done store.met.left s.store.held.slot s.store.held.unswept → (done ≡ Ok Cancelled.Done → Settles) → IfOk (cancel_answer done) (Clears Command.Cancel)
-    cancel_clear (Ok Cancelled.Done) clear slot_is behind settled = swept_by Command.Cancel Reply.Cancelled _ tt tt refl (clear (λ fault. absurd (cc fault)))
-        (behind ∙ ap (λ (t : Slot). unswept_behind store.met.left t s.store.held.unswept) (sym slot_is)) (settled refl)
-    cancel_clear (Ok Cancelled.Orphan) clear slot_is behind settled = unswept_by Command.Cancel Reply.CancelledOrphan _ (λ none. none) (clear (λ fault. absurd (cc fault))) behind
-    cancel_clear (Err CancelFault.Idle) clear slot_is behind settled = unswept_by Command.Cancel Reply.Idle _ (λ none. none) (clear (λ fault. absurd (cc fault))) behind
-    cancel_clear (Err CancelFault.Ground) clear slot_is behind settled = tt
+        → store.held.slot ≡ s.store.held.slot → store.held.unswept ≡ unswept_after done store.met.left s.store.held.slot s.store.held.unswept → (done ≡ Ok Cancelled.Done → Settles) → (done ≡ Ok Cancelled.Done → Remains) → IfOk (cancel_answer done) (Clears Command.Cancel)
+    cancel_clear (Ok Cancelled.Done) clear slot_is behind settled remains = swept_by Command.Cancel Reply.Cancelled _ tt tt refl (clear (λ fault. absurd (cc fault)))
+        (behind ∙ ap (λ (t : Slot). unswept_behind store.met.left t s.store.held.unswept) (sym slot_is)) (settled refl) (remains refl)
+    cancel_clear (Ok Cancelled.Orphan) clear slot_is behind settled remains = unswept_by Command.Cancel Reply.CancelledOrphan _ (λ none. none) (clear (λ fault. absurd (cc fault))) behind
+    cancel_clear (Err CancelFault.Idle) clear slot_is behind settled remains = unswept_by Command.Cancel Reply.Idle _ (λ none. none) (clear (λ fault. absurd (cc fault))) behind
+    cancel_clear (Err CancelFault.Ground) clear slot_is behind settled remains = tt
 
 -- one that was given up, whether its exit had been kept or not
 pub cancel_settles : (a b : Told) (slot : Slot) (records : Records) (r : Repository) (c : Collection) (done : Result Cancelled CancelFault) (u : Unswept) (left : ℕ) (store : Held) → Collects a slot records r c → Cancels r c done u left store a b → done ≡ Ok Cancelled.Done → (pair : Image) × IsSettledAs b c.job.attempt pair
@@ -197,6 +206,14 @@ cancel_runs P store done either over each = by store.collection refl
     by None is = absurd (cc (sym over ∙ either.0 is))
     by (Some c) is = each c is
 
+-- what is so because one ran
+pub cancel_ran : (A : Type 0) (store : Held) (done : Result Cancelled CancelFault) → (store.collection ≡ None) ↔ IsErrOf done CancelFault.Idle → done ≡ Ok Cancelled.Done → ((c : Collection) → store.collection ≡ Some c → A) → A
+cancel_ran A store done either over each = by store.collection refl
+  where
+    by : (o : Option Collection) → store.collection ≡ o → A
+    by None is = absurd (cc (sym over ∙ either.0 is))
+    by (Some c) is = each c is
+
 -- ---- lines
 
 pub lined_clear : (a b : Told) (s s' : Session) (met : Met) (command : Command) (line : Bytes) (result : Result Reply SessionEnd) → IsLineOf command line → ((other : Command) → IsLineOf other line → other ≡ command)
@@ -206,6 +223,7 @@ lined_clear a b s s' met command line (Ok reply) served one clear = record {
   all = λ (other, spelled, sweeps). clear.all (subst (λ (c : Command). SweepsBehind c reply) (one other spelled) sweeps);
   unswept = λ not. clear.unswept (λ sweeps. not (command, served, sweeps));
   behind = λ (other, spelled, sweeps). clear.behind (subst (λ (c : Command). SweepsBehind c reply) (one other spelled) sweeps);
+  all_but = λ (other, spelled, sweeps). clear.all_but (subst (λ (c : Command). SweepsBehind c reply) (one other spelled) sweeps);
   settled = λ (other, spelled, sweeps). clear.settled (subst (λ (c : Command). SweepsBehind c reply) (one other spelled) sweeps);
 }
 lined_clear a b s s' met command line (Err end) served one clear = tt
@@ -216,6 +234,7 @@ quiet_clear a b s s' line reply not keeps same = record {
   all = λ (command, spelled, sweeps). absurd (sweeps_never command reply not sweeps);
   unswept = λ _. same;
   behind = λ (command, spelled, sweeps). absurd (sweeps_never command reply not sweeps);
+  all_but = λ (command, spelled, sweeps). absurd (sweeps_never command reply not sweeps);
   settled = λ (command, spelled, sweeps). absurd (sweeps_never command reply not sweeps);
 }
 

@@ -18,6 +18,7 @@ use Rattle.ip_spec.specs.Machine.{Work as MachineWork}
 use Rattle.ip_spec.specs.Step.{Refused, ◌>>◌, refuse_if, or_refused, Turned, below, unless_some, not_given_up, head_among_parents, not_leaving, room_for_branch, not_existing, new_commit, with_commit, is_short, outcome, answer, turned}
 use Rattle.ip_spec.specs.View.{View}
 use Rattle.ip_spec.specs.Text.{reply_text, hex_text}
+use Rattle.ip_image.specs.Pending.{NothingPending}
 use Rattle.ip_held.specs.declared.work.Work.{Work}
 use Rattle.ip_held.specs.declared.fault.StoreFault.{StoreFault}
 use Rattle.ip_held.specs.Changes.{Changes, HasAnswer}
@@ -25,6 +26,7 @@ use Rattle.ip_held.specs.Collecting.{phase_of}
 use Rattle.ip_held.specs.Answers.{fault_reply, met_nothing, reply_to, Answers, Turns}
 use Rattle.ip_appends.specs.Commits.{repository_after}
 use Rattle.ip_held.specs.declared.collection.Collection.{Collection}
+use Rattle.ip_held.specs.Slots.{KeepsSlots}
 use Rattle.ip_held.specs.Work.{IsThere, work_at, session}
 use Rattle.ip_held.proofs.Phases.{there_none}
 use Rattle.ip_session.specs.declared.session.Session.{Session}
@@ -137,7 +139,7 @@ name_is_short name long_name long =
 
 -- ---- the command
 
-module _ (a b : Told) (s : Session) (store : Store) (work : Work) (met : Met) (r : Repository) (v : View) (here : IsWorking a s r v) (branch : Bytes) (info : Info) (made : Result Hash StoreFault) (phase_is : store.held.collection ≡ s.store.held.collection) (does : Changes r (repository_after r (phase_of s.store.held.collection) s.work v branch info) made store.held a b) where
+module _ (a b : Told) (s : Session) (store : Store) (work : Work) (met : Met) (r : Repository) (v : View) (here : IsWorking a s r v) (branch : Bytes) (info : Info) (made : Result Hash StoreFault) (phase_is : store.held.collection ≡ s.store.held.collection) (does : Changes r (repository_after r (phase_of s.store.held.collection) s.work v branch info) made store.held a b) (slots : NothingPending a → KeepsSlots a b) where
   abbrev committing : Command
   committing = Command.Commit branch info
 
@@ -157,11 +159,11 @@ module _ (a b : Told) (s : Session) (store : Store) (work : Work) (met : Met) (r
       by : (made : Result Hash StoreFault) → IfSome (reply_to made) Machine → Changes r (repository_after r (phase_of s.store.held.collection) s.work v branch info) made store.held a b
           → IfSome (reply_to made) (Went a b s store work r committed_to v here committing (whole r (phase_of s.store.held.collection) (work_at s.work v) branch info))
       by (Ok name) A does = done_so a b s store work r committed_to v here committing (whole r (phase_of s.store.held.collection) (work_at s.work v) branch info) name (Reply.Committed name) tt
-          (name_is_short name (commit_name r (phase_of s.store.held.collection) (work_at s.work v) branch info store.met (Reply.Committed name) _ A.turns)) (turn_of (Reply.Committed name) A) does
+          (name_is_short name (commit_name r (phase_of s.store.held.collection) (work_at s.work v) branch info store.met (Reply.Committed name) _ A.turns)) (turn_of (Reply.Committed name) A) does slots
       by (Err fault) A does = fault_so a b s store work r committed_to v here committing (whole r (phase_of s.store.held.collection) (work_at s.work v) branch info) fault (IfSome_then (fault_reply fault) A (λ reply x has. turn_of reply x)) does
 
   pub commit_cut : met ≡ met_only false → CutBy unasked a b s (record s { store = store; work = work; met = met }) r v committing
-  commit_cut e = cut_so a b s store work r committed_to v here committing (whole r (phase_of s.store.held.collection) (work_at s.work v) branch info) made met e refl (after_is r (phase_of s.store.held.collection) (work_at s.work v) branch info met_nothing refl) does
+  commit_cut e = cut_so a b s store work r committed_to v here committing (whole r (phase_of s.store.held.collection) (work_at s.work v) branch info) made met e refl (after_is r (phase_of s.store.held.collection) (work_at s.work v) branch info met_nothing refl) does slots
 
 pub has_answer : (made : Result Hash StoreFault) (reply : Reply) → reply_to made ≡ Some reply → HasAnswer made
 has_answer (Ok name) reply e = tt

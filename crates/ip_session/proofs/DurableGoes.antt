@@ -33,6 +33,7 @@ use Rattle.ip_held.specs.Answers.{fault_reply, met_by, met_of}
 use Rattle.ip_held.specs.Faults.{counted_store}
 use Rattle.ip_held.specs.Answers as commits
 use Rattle.ip_held.specs.Held.{IsOf, Holds}
+use Rattle.ip_held.specs.Slots.{KeepsSlots}
 use Rattle.ip_held.specs.Views.{IsViewAfter}
 use Rattle.ip_held.specs.Work.{work_at, session, IsAt}
 use Rattle.ip_publish.specs.Publishing.{MayChange}
@@ -44,7 +45,7 @@ use Rattle.ip_session.specs.declared.session.Session.{Session}
 use Rattle.ip_session.specs.declared.session.SessionEnd.{SessionEnd}
 use Rattle.ip_session.specs.Session.{unasked, attempt_of, hears, IsWorking, state_in, met_only, conditions_of, IsLong, is_durable, IsDurable, ChangedBy, TouchedBy, GoesBy, CutBy, EndsBy, IsAnswer, MetDamage, fault_answer, counted_end}
 use Rattle.ip_session.proofs.Damage.{TellsApart}
-use Rattle.ip_session.proofs.Changing.{changed_by, nothing_by, nothing_space, changed_so, touched_so, keeps_nothing, stays_only}
+use Rattle.ip_session.proofs.Changing.{changed_by, nothing_by, nothing_space, slots_same, changed_so, touched_so, keeps_nothing, stays_only}
 use Rattle.ip_session.proofs.SessionLemmas.{at, heard_none, unjudged, unsettled, nothing_kept, plainly, Refusable}
 use Rattle.ip_store.specs.declared.store.Store.{Store}
 
@@ -147,6 +148,7 @@ module _ (a b : Told) (s : Session) (store : Store) (work : Work) (r after : Rep
         said = only.said;
         space = λ order none slot live. nothing_space a b only order slot live;
         atomic = λ order. keeps_still s.store.held r T.next a b here.holds order only;
+        slots = λ order. slots_same s.store.held r a b here.holds only;
         nothing_pending = λ order. pending_passes a b only.goes (λ file. only.others file (λ none. none)) only.lending order;
         spared = λ long. record { same = state; seen = kept_view r v command reply T.view whole.durable quiet T.seen; refused = whole.refusable r (phase_of s.store.held.collection) (work_at s.work v) };
         still = λ long. only;
@@ -162,8 +164,8 @@ module _ (a b : Told) (s : Session) (store : Store) (work : Work) (r after : Rep
   fault_so StoreFault.Ground T does = tt
   fault_so (StoreFault.Damaged at names) T does = tt
 
-  pub done_so : {A : Type 0} (x : A) (reply : Reply) → IsDurable reply command → ¬ IsLong reply → Turn reply → Changes {A = A} r after (Ok x) store.held a b → Went reply
-  done_so x reply done short T does =
+  pub done_so : {A : Type 0} (x : A) (reply : Reply) → IsDurable reply command → ¬ IsLong reply → Turn reply → Changes {A = A} r after (Ok x) store.held a b → (NothingPending a → KeepsSlots a b) → Went reply
+  done_so x reply done short T does slots =
       let repository : T.next ≡ after = made r (phase_of s.store.held.collection) (work_at s.work v) command after whole store.met (heard_as T) reply (session T.next (phase_of store.held.collection) work T.view) T.turns.1 done in
       record {
         after = T.next;
@@ -180,6 +182,7 @@ module _ (a b : Told) (s : Session) (store : Store) (work : Work) (r after : Rep
         said = does.only.said;
         space = λ order none slot live. does.space order slot live;
         atomic = λ order. subst (λ (q : Repository). IsAtomic a b r q) (sym repository) (does.atomic order);
+        slots = slots;
         nothing_pending = λ order. does.nothing_pending order tt;
         spared = λ long. absurd (short long);
         still = λ long. absurd (short long);
@@ -191,9 +194,9 @@ module _ (a b : Told) (s : Session) (store : Store) (work : Work) (r after : Rep
       subst (λ (x : Met). GoesBy unasked a b s (record s { store = store; work = work; met = x }) r v command reply) (sym m) (subst (λ (x : Option Reply). IfSome x Went) e went)
 
   -- what the machine gives where nothing was met
-  pub cut_so : {A : Type 0} (result : Result A StoreFault) (met : Met) → met ≡ met_only false → is_durable command ≡ true → (answer (state_in s r v) command (conditions_of (met_only false))).1.repository ≡ after → Changes {A = A} r after result store.held a b
+  pub cut_so : {A : Type 0} (result : Result A StoreFault) (met : Met) → met ≡ met_only false → is_durable command ≡ true → (answer (state_in s r v) command (conditions_of (met_only false))).1.repository ≡ after → Changes {A = A} r after result store.held a b → (NothingPending a → KeepsSlots a b)
       → CutBy unasked a b s (record s { store = store; work = work; met = met }) r v command
-  cut_so result met e durable repository does =
+  cut_so result met e durable repository does slots =
       let t = answer (state_in s r v) command (conditions_of (met_only false)) in
       record {
         reply = t.0;
@@ -207,6 +210,7 @@ module _ (a b : Told) (s : Session) (store : Store) (work : Work) (r after : Rep
         said = does.only.said;
         space = λ order none slot live. does.space order slot live;
         atomic = λ order. subst (λ (q : Repository). IsAtomic a b r q) (sym repository) (does.atomic order);
+        slots = slots;
       }
 
 -- an answered call gives no commits up, if the repository that it leaves does not

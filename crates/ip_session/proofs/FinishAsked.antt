@@ -3,13 +3,12 @@
 --     Answered c      the child of a collection was asked.      finish_asked      what the command asks
 --     finish_counts, finish_quiet      what was counted.      finish_ends      how the session may end.      finish_still      and what has changed where it ends by damage
 --     Knows a b before store command looked r held      what the store says besides where the ground tells what it holds.      finish_ran      all that the session does
-use Rattle.std.proofs.Common.{◌≡◌, ◌≢◌, ◌⊎◌, inl, inr, ℕ, zero, suc, ◌-◌, ◌^◌, ◌<◌, ◌≤◌, ◌++◌, Bool, true, false, List, [], ◌∷◌, refl, sym, ap, ◌∙◌, subst, arith, Option, Some, None, Ok, Err, IsTrue, append-nil}
-use Rattle.std.specs.Prelude.{◌↔◌, Result, IfOk, IfErr, IfSome, IsErrOf, IsSomeAnd, is_some, is_ok, is_err, option_map}
+use Rattle.std.proofs.Common.{◌≡◌, ◌≢◌, ◌⊎◌, inl, inr, ℕ, zero, suc, ◌+◌, ◌-◌, ◌^◌, ◌<◌, ◌≤◌, ◌++◌, Bool, true, false, List, [], ◌∷◌, refl, sym, ap, ◌∙◌, subst, arith, Option, Some, None, Ok, Err, IsTrue, append-nil}
+use Rattle.std.specs.Prelude.{◌↔◌, Result, IfOk, IfErr, IfSome, IsErr, IsErrOf, IsSomeAnd, is_some, is_ok, is_err, option_map, count_by}
 use Rattle.ip_base.specs.declared.exit.Reaped.{Reaped}
-use Rattle.ip_ground.specs.Counts.{Noted, CountsLeft, Rose}
+use Rattle.ip_ground.specs.Counts.{Noted, CountsLeft}
 use Rattle.ip_ground.specs.Contents.{Image}
 use Rattle.ip_ground.specs.Told.{Told, NoFile, IsSettledAs}
-use Rattle.ip_spawn.proofs.Rising.{rose_counted}
 use Rattle.ip_spawn.specs.Children.{told_after, end_seen, end_reaped, is_running}
 use Rattle.ip_spawn.specs.Children as spawn
 use Rattle.ip_spawn.specs.Counts as spawned
@@ -25,6 +24,7 @@ use Rattle.ip_spec.specs.Path.{Bytes}
 use Rattle.ip_spec.specs.Repository.{Repository}
 use Rattle.ip_spec.specs.Step.{MayHear}
 use Rattle.ip_spec.specs.Step as Machine
+use Rattle.ip_keep.specs.Keeping.{starts_between}
 use Rattle.ip_held.specs.declared.collection.Collection.{Collection}
 use Rattle.ip_collects.specs.declared.finishing.FinishFault.{FinishFault}
 use Rattle.ip_collects.specs.declared.finishing.Looked.{Looked}
@@ -32,18 +32,18 @@ use Rattle.ip_collects.specs.declared.finishing.Rejection.{Rejection}
 use Rattle.ip_held.specs.declared.held.Held.{Held}
 use Rattle.ip_held.specs.Clear.{KeepsClear, ClearsAll}
 use Rattle.ip_held.specs.Collecting.{child_of, phase_of, IsPhaseOf}
-use Rattle.ip_collects.specs.Finishing.{LookReplies, child_seen, child_reaped, CountsFinish, FinishesBy, HasAnswer, IsKept, IsOver, IsQuiet, IsSliced, IsSweptBehind, IsUndamaged, Slices, WorksStay}
+use Rattle.ip_collects.specs.Finishing.{LookReplies, child_seen, child_reaped, CountsFinish, FinishesBy, HasAnswer, IsCollected, IsKept, IsOver, IsQuiet, IsSliced, IsSweptBehind, IsUndamaged, Slices, WorksStay, looked_at}
 use Rattle.ip_held.specs.Held.{IsOf, Holds, image_records}
 use Rattle.ip_held.specs.Sweeping.{EndsFor}
 use Rattle.ip_collects.proofs.FinishTurns.{IsEnding}
 use Rattle.ip_session.specs.declared.session.Session.{Session}
 use Rattle.ip_session.specs.declared.session.SessionEnd.{SessionEnd}
-use Rattle.ip_session.specs.Asking.{HasStarted, HeardOf, GoesOnBy, IsSlicedIn, QuietIfLong, looks}
+use Rattle.ip_session.specs.Asking.{HasStarted, HeardOf, GoesOnBy, IsBoundedIn, IsSlicedIn, QuietIfLong, looks}
 use Rattle.ip_session.specs.Running.{IsKnown, Ran}
 use Rattle.ip_session.specs.Session.{unasked, ChangesBy, CountsBy, EndsBy, IsLong, IsServing, MetDamage, StillBy}
 use Rattle.ip_session.specs.Starting.{look_answer}
 use Rattle.ip_session.proofs.Asking.{AskedSo, nothing_asked, goes_same, goes_none, none_added, never_failed, none_left}
-use Rattle.ip_session.proofs.ClearGoes.{finish_clear, Settles}
+use Rattle.ip_session.proofs.ClearGoes.{finish_clear, Remains, Settles}
 use Rattle.ip_session.proofs.Wanted.{look_wants}
 use Rattle.ip_session.proofs.FinishGoes.{Says, by_end, concluded, may_reap, finish_serves, finish_goes, finish_cuts, finish_placed}
 use Rattle.ip_store.specs.declared.store.Store.{Store}
@@ -52,17 +52,17 @@ use Rattle.ip_store.specs.declared.store.Store.{Store}
 
 abbrev pub Sees : Child → Option Reaped → Bool → Bool → Type 0
 Sees Child.NotAsked end ran failed = ⊥
-Sees Child.Running end ran failed = (end ≡ None) × (ran ≡ true)
+Sees Child.Running end ran failed = (end ≡ None) × (ran ≡ true) × (failed ≡ false)
 Sees Child.Fault end ran failed = (end ≡ None) × (ran ≡ false) × (failed ≡ true)
-Sees (Child.Ended reaped) end ran failed = (end ≡ Some reaped) × (ran ≡ false)
+Sees (Child.Ended reaped) end ran failed = (end ≡ Some reaped) × (ran ≡ false) × (failed ≡ false)
 
 pub seen_so : (answer : Result Look SpawnFault) → Sees (child_seen answer) (end_seen answer) (is_running answer) (is_err answer)
-seen_so (Ok Look.Running) = (refl, refl)
-seen_so (Ok (Look.Ended reaped)) = (refl, refl)
+seen_so (Ok Look.Running) = (refl, refl, refl)
+seen_so (Ok (Look.Ended reaped)) = (refl, refl, refl)
 seen_so (Err fault) = (refl, refl, refl)
 
 pub reaped_so : (answer : Result Reaped SpawnFault) → Sees (child_reaped answer) (end_reaped answer) false (is_err answer)
-reaped_so (Ok reaped) = (refl, refl)
+reaped_so (Ok reaped) = (refl, refl, refl)
 reaped_so (Err fault) = (refl, refl, refl)
 
 pub reaps_so : (answer : Result Reaped SpawnFault) → is_ok answer ≡ is_some (end_reaped answer)
@@ -103,6 +103,30 @@ not_ran Child.Running end ran failed sees not = absurd (not refl)
 not_ran Child.Fault end ran failed sees not = sees.1
 not_ran (Child.Ended reaped) end ran failed sees not = sees.1
 
+not_failed : (child : Child) (end : Option Reaped) (ran failed : Bool) → Sees child end ran failed → child ≢ Child.Fault → failed ≡ false
+not_failed Child.NotAsked end ran failed sees not = absurd sees
+not_failed Child.Running end ran failed sees not = sees.2
+not_failed Child.Fault end ran failed sees not = absurd (not refl)
+not_failed (Child.Ended reaped) end ran failed sees not = sees.2
+
+counted_or : (b : Bool) (old new : ℕ) → new ≡ spawned.counted b old → (new ≡ old) ⊎ (new ≡ spawned.counted true old)
+counted_or false old new is = inl is
+counted_or true old new is = inr is
+
+-- one that was cut short was followed by no sweep
+cut_unswept : (looked : Result Looked FinishFault) → IsErr (look_answer looked) → ¬ IsSweptBehind looked
+cut_unswept (Ok Looked.Running) failed swept = swept
+cut_unswept (Ok (Looked.Checking left)) failed swept = swept
+cut_unswept (Ok (Looked.Collected collected)) failed swept = absurd (cc failed)
+cut_unswept (Err (FinishFault.Rejected (Rejection.Exit exit))) failed swept = absurd (cc failed)
+cut_unswept (Err (FinishFault.Rejected (Rejection.Differs difference))) failed swept = absurd (cc failed)
+cut_unswept (Err FinishFault.Idle) failed swept = swept
+cut_unswept (Err FinishFault.Wait) failed swept = swept
+cut_unswept (Err (FinishFault.Limit limit)) failed swept = swept
+cut_unswept (Err FinishFault.Memory) failed swept = swept
+cut_unswept (Err FinishFault.Ground) failed swept = swept
+cut_unswept (Err (FinishFault.Damaged at)) failed swept = swept
+
 ended_alike : (one other : Reaped) → ◌≡◌ {A = Child} (Child.Ended one) (Child.Ended other) → one ≡ other
 ended_alike one other is = cc is
 
@@ -123,6 +147,12 @@ module _ (tells : Bool) (dir : Bytes) (x y : spawn.Told) (s : Session) (store : 
 
   no_kill : met.kill_failed ≡ false
   no_kill = ap (λ (k : Met). k.kill_failed) (is_met ∙ says.goes.told)
+
+  none_left_so : ¬ IsSweptBehind looked → met.left ≡ 0
+  none_left_so unswept = ap (λ (k : Met). k.left) is_met ∙ says.goes.none unswept
+
+  cut_short : IsErr (look_answer looked) → (met.start_failed ≡ false) × (met.kill_failed ≡ false) × (met.left ≡ 0)
+  cut_short failed = (no_start, no_kill, none_left_so (cut_unswept looked failed))
 
   child_is : met.child ≡ store.met.child
   child_is = ap (λ (k : Met). k.child) is_met
@@ -190,7 +220,7 @@ module _ (tells : Bool) (dir : Bytes) (x y : spawn.Told) (s : Session) (store : 
   idle_asked r tables none is same =
       let says_idle = concluded s store met command ending looked is_met says r tables Reply.Idle (ap look_answer is) in
       let heard : MayHear Phase.Idle command store.met.child = subst (λ (o : Option Collection). MayHear (phase_of o) command store.met.child) none (says_idle.turns empty_work).0.child in
-      nothing_asked tells dir x y s after_it command (look_answer looked) m n same.0 same.1 (never_started looked) (never_over looked) (no_start, no_kill, child_is ∙ none_heard command ending store.met.child heard) goes_on sliced
+      nothing_asked tells dir x y s after_it command (look_answer looked) m n same.0 same.1 (never_started looked) (never_over looked) (no_start, no_kill, child_is ∙ none_heard command ending store.met.child heard, none_left_so (subst (λ (x : Result Looked FinishFault). ¬ IsSweptBehind x) (sym is) (λ swept. swept))) goes_on sliced
 
   -- its child had been reaped
   kept_asked : (r : Repository) → IsOf s.store.held r → (c : Collection) (kept : Reaped) → s.store.held.collection ≡ Some c → c.exit ≡ Some kept → (y ≡ x) × (n ≡ m) → Asks
@@ -207,18 +237,19 @@ module _ (tells : Bool) (dir : Bytes) (x y : spawn.Told) (s : Session) (store : 
           sliced = sliced;
           running = λ is. absurd (cc (sym is ∙ child));
           not_running = λ _. ap (λ (k : SpawnCounts). k.running) same.1;
-          waits = (let e = ap (λ (k : SpawnCounts). k.waits) same.1 in omega (arith, e));
+          waits = inl (ap (λ (k : SpawnCounts). k.waits) same.1);
           no_wait = λ _. ap (λ (k : SpawnCounts). k.waits) same.1;
-          waited = λ _ some. absurd (some refl);
-          reaps = (let e = ap (λ (k : SpawnCounts). k.reaps) same.1 in omega (arith, e));
+          waited = λ _ either. elim either [ inl some ↦ absurd (some refl) | inr fault ↦ absurd (cc (sym fault ∙ child)) ];
+          reaps = inl (ap (λ (k : SpawnCounts). k.reaps) same.1);
           none_reaped = λ not. absurd (not (may_reap command ending));
           heard = λ reaped is. (let e : kept ≡ reaped = ended_alike kept reaped (sym child ∙ is) in
               subst (λ (o : Option Collection). IsSomeAnd o (λ d. HeardOf d reaped [] m n)) (sym runs) (subst (λ (k : Reaped). k.attempt ≡ c.job.attempt) e attempt, inr (exit ∙ ap Some e, refl, same.1)));
-          unheard = λ is. absurd (cc (sym is ∙ child));
           cancelled = λ is. absurd (never_over looked is);
-          spawn_faults = (let e = ap (λ (k : SpawnCounts). k.spawn_faults) same.1 in omega (arith, e));
+          unheard = λ is. absurd (cc (sym is ∙ child));
           start = λ failed. never_failed met.start_failed no_start failed;
           kill = λ failed. never_failed met.kill_failed no_kill failed;
+          no_fault = λ _ _ _. ap (λ (k : SpawnCounts). k.spawn_faults) same.1;
+          cut = cut_short;
         },
       )
 
@@ -254,12 +285,12 @@ module _ (tells : Bool) (dir : Bytes) (x y : spawn.Told) (s : Session) (store : 
       goes_on = goes_on;
       sliced = sliced;
       running = λ is. (let sees = subst (λ (k : Child). Sees k A.end A.ran A.failed) (sym child_is ∙ is) A.sees in
-          subst (Rose m.running) (sym A.counts.running) (subst (λ (b : Bool). Rose m.running (spawned.counted b m.running)) (sym sees.1) (rose_counted m.running)));
+          A.counts.running ∙ ap (λ (b : Bool). spawned.counted b m.running) sees.1);
       not_running = λ not. A.counts.running ∙ ap (λ (b : Bool). spawned.counted b m.running) (not_ran store.met.child A.end A.ran A.failed A.sees (λ is. not (child_is ∙ is)));
-      waits = A.counts.waits_stay;
+      waits = counted_or A.waited m.waits n.waits A.counts.waits;
       no_wait = λ not. elim A.waits [ inl none ↦ A.counts.waits ∙ ap (λ (b : Bool). spawned.counted b m.waits) none | inr is ↦ absurd (not is) ];
-      waited = λ is _. subst (Rose m.waits) (sym A.counts.waits) (subst (λ (b : Bool). Rose m.waits (spawned.counted b m.waits)) (sym (A.awaits is)) (rose_counted m.waits));
-      reaps = A.counts.reaps_stay;
+      waited = λ is _. A.counts.waits ∙ ap (λ (b : Bool). spawned.counted b m.waits) (A.awaits is);
+      reaps = counted_or (is_some A.end) m.reaps n.reaps A.counts.reaps;
       none_reaped = λ not. absurd (not (may_reap command ending));
       heard = λ reaped is. (let sees = subst (λ (k : Child). Sees k A.end A.ran A.failed) (sym child_is ∙ is) A.sees in
           subst (λ (o : Option Collection). IsSomeAnd o (λ d. HeardOf d reaped (ends_in A.end) m n)) (sym runs) (
@@ -267,14 +298,15 @@ module _ (tells : Bool) (dir : Bytes) (x y : spawn.Told) (s : Session) (store : 
             inl (
               fresh,
               ap ends_in sees.0,
-              subst (Rose m.reaps) (sym A.counts.reaps) (subst (λ (o : Option Reaped). Rose m.reaps (spawned.counted (is_some o) m.reaps)) (sym sees.0) (rose_counted m.reaps)),
+              A.counts.reaps ∙ ap (λ (o : Option Reaped). spawned.counted (is_some o) m.reaps) sees.0,
             ),
           ));
-      unheard = λ is. (let sees = subst (λ (k : Child). Sees k A.end A.ran A.failed) (sym child_is ∙ is) A.sees in A.counts.cause (subst IsTrue (sym sees.2) refl));
       cancelled = λ is. absurd (never_over looked is);
-      spawn_faults = A.counts.spawn_faults;
+      unheard = λ is. (let sees = subst (λ (k : Child). Sees k A.end A.ran A.failed) (sym child_is ∙ is) A.sees in A.counts.spawn_faults ∙ ap (λ (b : Bool). spawned.counted b m.spawn_faults) sees.2);
       start = λ failed. never_failed met.start_failed no_start failed;
       kill = λ failed. never_failed met.kill_failed no_kill failed;
+      no_fault = λ not _ _. A.counts.spawn_faults ∙ ap (λ (b : Bool). spawned.counted b m.spawn_faults) (not_failed store.met.child A.end A.ran A.failed A.sees (λ is. not (child_is ∙ is)));
+      cut = cut_short;
     },
   )
 
@@ -396,6 +428,8 @@ pub record Knows (a b : Told) (before : Held) (store : Store) (command : Command
   pub undamaged : IsUndamaged looked
   pub works_stay : HasAnswer looked → (q : Repository) (now : Holds store.held b q) → WorksStay held now
   pub clear : HasAnswer looked → KeepsClear before store.held a b × ClearsAll (IsSweptBehind looked) store.met.left before store.held a b
+  -- a look looks at so many records at most
+  pub bounded : command ≡ Command.Look → (c : Collection) → before.collection ≡ Some c → IsCollected looked → count_by (starts_between c.job.horizon c.job.end) held.stands.standing.records ≤ looked_at c + looks
 
 module _ (tells : Bool) (a b : Told) (p q : Noted) (spawns : Bool) (held : Option ℕ) (dir : Bytes) (x y : spawn.Told) (m n : SpawnCounts) (s : Session) (store : Store) (met : Met) (command : Command) (ending : IsEnding command) (looked : Result Looked FinishFault) (is_met : met ≡ store.met) (says : Says s store command looked) where
   abbrev Does : Result Reply SessionEnd → Type 0
@@ -406,6 +440,33 @@ module _ (tells : Bool) (a b : Told) (p q : Noted) (spawns : Bool) (held : Optio
   finish_settles r here known swept = by_end s store met command ending looked is_met says (Settles a b s store met is_met) (λ quiet un. absurd (quiet_unswept looked quiet swept))
       (λ c reaped runs heard. subst (λ (o : Option Collection). IsSomeAnd o (λ d. (pair : Image) × IsSettledAs b d.job.attempt pair)) (sym runs) ((known.any_moment c reaped runs heard).does.settled (swept_answer looked swept)))
 
+  finish_remains : (r : Repository) (here : Holds s.store.held a r) → Knows a b s.store.held store command looked r here → IsSweptBehind looked → Remains a b s store met is_met
+  finish_remains r here known swept = by_end s store met command ending looked is_met says (Remains a b s store met is_met) (λ quiet un. absurd (quiet_unswept looked quiet swept))
+      (λ c reaped runs heard. (known.any_moment c reaped runs heard).does.all_but swept)
+
+  finish_bounded : (r : Repository) (here : Holds s.store.held a r) → Knows a b s.store.held store command looked r here → command ≡ Command.Look → IfOk (look_answer looked) (IsBoundedIn here.stands.standing.records s.store.held.collection)
+  finish_bounded r here known look = by looked refl
+    where
+      collected : IsCollected looked → IsSomeAnd s.store.held.collection (λ c. count_by (starts_between c.job.horizon c.job.end) here.stands.standing.records ≤ looked_at c + looks)
+      collected is = go s.store.held.collection refl
+        where
+          go : (o : Option Collection) → s.store.held.collection ≡ o → IsSomeAnd o (λ c. count_by (starts_between c.job.horizon c.job.end) here.stands.standing.records ≤ looked_at c + looks)
+          go None none = absurd (subst IsCollected (says.goes.runs.0 none) is)
+          go (Some c) runs = known.bounded look c runs is
+
+      by : (x : Result Looked FinishFault) → looked ≡ x → IfOk (look_answer x) (IsBoundedIn here.stands.standing.records s.store.held.collection)
+      by (Ok Looked.Running) is = tt
+      by (Ok (Looked.Checking left)) is = tt
+      by (Ok (Looked.Collected done)) is = collected (subst IsCollected (sym is) tt)
+      by (Err FinishFault.Idle) is = tt
+      by (Err FinishFault.Wait) is = tt
+      by (Err (FinishFault.Rejected (Rejection.Exit exit))) is = tt
+      by (Err (FinishFault.Rejected (Rejection.Differs difference))) is = tt
+      by (Err (FinishFault.Limit limit)) is = tt
+      by (Err FinishFault.Memory) is = tt
+      by (Err FinishFault.Ground) is = tt
+      by (Err (FinishFault.Damaged at)) is = tt
+
   pub finish_ran : (result : Result Reply SessionEnd) → result ≡ look_answer looked → IfOk result (λ reply. ¬ IsLong reply) → IsServing s → (IsTrue tells → (r : Repository) (here : Holds s.store.held a r) → Knows a b s.store.held store command looked r here) → (IsTrue tells → ¬ IsUndamaged looked → (c : Collection) → s.store.held.collection ≡ Some c → EndsFor c.job.attempt NoFile a b) → (IsQuiet looked → b ≡ a) → CountsFinish looked store.met.left p q
       → held ≡ child_of store.held.collection → AskedSo spawns dir x y s (record s { store = store; met = met }) command (look_answer looked) m n → Does result
   finish_ran result is brief (r0, of) known untouched still counts child asked =
@@ -415,7 +476,8 @@ module _ (tells : Bool) (a b : Told) (p q : Noted) (spawns : Bool) (held : Optio
           serving = finish_serves s store met command ending looked is_met says r0 of.0 of.1;
           goes = λ t r v here. let K = known t r here.holds in finish_goes s store met command ending looked is_met says a b r v here K.any_moment K.works_stay still short;
           placed = λ t r v here. finish_placed s store met command ending looked is_met says r here.holds.tables v (image_records here.holds);
-          clear = λ t r v here. finish_clear a b s store met is_met command looked (may_reap command ending) (known t r here.holds).clear says.goes.unswept (finish_settles r here.holds (known t r here.holds));
+          bounded = λ t r v here look. finish_bounded r here.holds (known t r here.holds) look;
+          clear = λ t r v here. let K = known t r here.holds in finish_clear a b s store met is_met command looked (may_reap command ending) K.clear says.goes.unswept (finish_settles r here.holds K) (finish_remains r here.holds K);
           cut = λ t r v here. let K = known t r here.holds in finish_cuts s store met command ending looked is_met says a b r v here K.any_moment K.undamaged;
           cause = finish_ends looked (IsKnown (IsTrue tells) a s) (λ (t, (r, v, here)). (known t r here.holds).undamaged);
           untouched = λ t damaged. finish_still s.store.held store command ending looked a b says.goes.runs (untouched t) damaged;

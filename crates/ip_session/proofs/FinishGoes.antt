@@ -43,6 +43,7 @@ use Rattle.ip_collects.proofs.Ended.{ends_more, ends_stays}
 use Rattle.ip_collects.proofs.FinishTurns.{IsEnding}
 use Rattle.ip_held.proofs.Stepping.{itself, same_holds, stays_still}
 use Rattle.ip_held.proofs.Works.{works_stay}
+use Rattle.ip_held.proofs.SlotLaws.{slots_none}
 use Rattle.ip_session.specs.declared.session.Session.{Session}
 use Rattle.ip_session.specs.declared.session.SessionEnd.{SessionEnd}
 use Rattle.ip_session.specs.Asking.{MayReap, looks}
@@ -501,6 +502,7 @@ module _ (s : Session) (store : Store) (met : Met) (command : Command) (ending :
             said = F.does.only.beside.said;
             space = λ order none slot live. absurd (none reaped (child_so));
             atomic = F.does.atomic;
+            slots = F.does.slots;
             nothing_pending = λ order. F.does.nothing_pending order has;
             spared = λ long. absurd (short long);
             still = λ long. absurd (short long);
@@ -537,6 +539,7 @@ module _ (s : Session) (store : Store) (met : Met) (command : Command) (ending :
             said = F.does.only.beside.said;
             space = λ order none slot live. absurd (none reaped (child_so));
             atomic = λ order. subst (λ (q : Repository). IsAtomic a b r q) (sym after_is) (F.does.atomic order);
+            slots = F.does.slots;
           }
 
     -- it was not heard to have ended
@@ -569,6 +572,7 @@ module _ (s : Session) (store : Store) (met : Met) (command : Command) (ending :
             said = (only_nowhere a NoFile).said;
             space = λ order none slot live. nothing_space a a (only_nowhere a NoFile) order slot live;
             atomic = λ order t late le. absurd (omega (arith, late, le));
+            slots = λ order. slots_none a;
             nothing_pending = λ order. order;
             spared = λ long. absurd (short long);
             still = λ long. absurd (short long);

@@ -9,6 +9,7 @@ use Rattle.ip_base.specs.declared.info.Info.{Info}
 use Rattle.ip_base.specs.declared.limit.Limit.TheVariants as Limit
 use Rattle.ip_ground.specs.Told.{Told, NoFile, ChangesOnly}
 use Rattle.ip_ground.proofs.Spans.{only_more, only_nowhere}
+use Rattle.ip_image.specs.Pending.{NothingPending}
 use Rattle.ip_image.specs.Headline.{IsAtomic}
 use Rattle.ip_image.proofs.HeadlineLaws.{pending_passes}
 use Rattle.ip_image.proofs.OneRepository.{one_repository}
@@ -33,6 +34,7 @@ use Rattle.ip_held.specs.Changes.{HasAnswer, Changes}
 use Rattle.ip_appends.specs.Merging.{merge_reply, GoesOnFrom, AnswersMerge, MergesAtMoments, AppendsMerge, LimitsMerge}
 use Rattle.ip_publish.specs.Publishing.{MayChange}
 use Rattle.ip_held.specs.Held.{Holds, image_records}
+use Rattle.ip_held.specs.Slots.{KeepsSlots}
 use Rattle.ip_held.specs.Trees.{RecordsStay}
 use Rattle.ip_held.specs.Views.{IsViewAfter}
 use Rattle.ip_held.specs.Collecting.{phase_of}
@@ -47,7 +49,7 @@ use Rattle.ip_session.specs.Session.{IsServing, IsWorking, state_in, met_only, c
 use Rattle.ip_session.proofs.NameSizes.{Short, merge_short, name_size}
 use Rattle.ip_session.proofs.SessionLemmas.{at, plainly, heard_none, unjudged, unsettled, hex_long, merge_refused}
 use Rattle.ip_session.proofs.Referring.{IsUnnamed, NamesNone, names_none}
-use Rattle.ip_session.proofs.Changing.{nothing_by, nothing_space, keeps_nothing, stays_only}
+use Rattle.ip_session.proofs.Changing.{nothing_by, nothing_space, slots_same, keeps_nothing, stays_only}
 use Rattle.ip_session.proofs.SessionGoes.{still_goes}
 use Rattle.ip_session.proofs.DurableGoes.{keeps_still, answered}
 use Rattle.ip_session.proofs.Placing.{unmoved}
@@ -148,13 +150,14 @@ module _ (rule : Rule) (a b : Told) (s : Session) (store : Store) (phase_is : st
         said = only.said;
         space = λ order none slot live. nothing_space a b only order slot live;
         atomic = λ order. keeps_still s.store.held r A.after a b here.holds order only;
+        slots = λ order. slots_same s.store.held r a b here.holds only;
         nothing_pending = λ order. pending_passes a b only.goes (λ file. only.others file (λ none. none)) only.lending order;
         spared = λ long. record { same = λ i. state_at (same i) (phase_of (phase_is i)) (work_at s.work v); seen = refl; refused = merge_refused target branch info r (phase_of s.store.held.collection) (work_at s.work v) };
         still = λ long. only;
       }
 
-  done_so : (reply : Reply) → IsDurable reply command → ¬ IsLong reply → Answered reply → Stays → (merge : Merge) (after : Repository) → Changes r after (Ok merge) store.held a b → Went reply
-  done_so reply done short A stay merge after does =
+  done_so : (reply : Reply) → IsDurable reply command → ¬ IsLong reply → Answered reply → Stays → (merge : Merge) (after : Repository) → Changes r after (Ok merge) store.held a b → (NothingPending a → KeepsSlots a b) → Went reply
+  done_so reply done short A stay merge after does slots =
       let same : after ≡ A.after = one_repository b.held after A.after does.ok.stands A.holds.stands in
       record {
         after = A.after;
@@ -171,6 +174,7 @@ module _ (rule : Rule) (a b : Told) (s : Session) (store : Store) (phase_is : st
         said = does.only.said;
         space = λ order none slot live. does.space order slot live;
         atomic = λ order. subst (λ (q : Repository). IsAtomic a b r q) same (does.atomic order);
+        slots = slots;
         nothing_pending = λ order. does.nothing_pending order tt;
         spared = λ long. absurd (short long);
         still = λ long. absurd (short long);
@@ -181,8 +185,8 @@ module _ (rule : Rule) (a b : Told) (s : Session) (store : Store) (phase_is : st
 
   went : (made : Result Merge StoreFault) → MergesAtMoments rule here.holds (phase_of s.store.held.collection) number branch info made store.held b → (HasAnswer made → Stays) → IfSome (merge_reply branch made) Answered → IfSome (merge_reply branch made) Went
   went (Ok (Merge.Current name)) M stay A = quiet_so (Reply.Current name) (λ h. h) A (stay tt) (M.unmoved tt)
-  went (Ok (Merge.Forward name)) M stay A = done_so (Reply.Forward name) tt (forward_is_short name (name_so (Reply.Forward name) A)) A (stay tt) (Merge.Forward name) M.after M.took.changes
-  went (Ok (Merge.Merged name)) M stay A = done_so (Reply.Merged name) tt (merged_is_short name (name_so (Reply.Merged name) A)) A (stay tt) (Merge.Merged name) M.after M.took.changes
+  went (Ok (Merge.Forward name)) M stay A = done_so (Reply.Forward name) tt (forward_is_short name (name_so (Reply.Forward name) A)) A (stay tt) (Merge.Forward name) M.after M.took.changes M.took.slots
+  went (Ok (Merge.Merged name)) M stay A = done_so (Reply.Merged name) tt (merged_is_short name (name_so (Reply.Merged name) A)) A (stay tt) (Merge.Merged name) M.after M.took.changes M.took.slots
   went (Ok Merge.NoBranch) M stay A = quiet_so (Reply.NoBranch branch) (λ h. h) A (stay tt) (M.unmoved tt)
   went (Ok (Merge.Bases count)) M stay A = quiet_so (Reply.Bases count) (λ h. h) A (stay tt) (M.unmoved tt)
   went (Ok (Merge.Conflict path)) M stay A = quiet_so (Reply.Conflict path) (λ h. h) A (stay tt) (M.unmoved tt)
@@ -213,6 +217,7 @@ module _ (rule : Rule) (a b : Told) (s : Session) (store : Store) (phase_is : st
     said = M.took.changes.only.said;
     space = λ order none slot live. M.took.changes.space order slot live;
     atomic = M.took.changes.atomic;
+    slots = M.took.slots;
   }
 
   abbrev At : Reply → Type 0

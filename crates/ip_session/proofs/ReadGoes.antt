@@ -22,7 +22,7 @@ use Rattle.ip_held.proofs.Machine.{AsksNone}
 use Rattle.ip_session.specs.declared.session.Session.{Session}
 use Rattle.ip_session.specs.declared.session.SessionEnd.{SessionEnd}
 use Rattle.ip_session.specs.Session.{unasked, attempt_of, hears, IsServing, IsWorking, state_in, met_only, conditions_of, is_durable, ChangedBy, TouchedBy, IsAnswered, HasRead, GoesBy, CutBy}
-use Rattle.ip_session.proofs.Changing.{nothing_by, nothing_space, keeps_nothing, stays_only}
+use Rattle.ip_session.proofs.Changing.{nothing_by, nothing_space, slots_same, keeps_nothing, stays_only}
 use Rattle.ip_session.proofs.SessionLemmas.{plainly, heard_none, unjudged, unsettled}
 use Rattle.ip_session.proofs.DurableGoes.{keeps_still}
 
@@ -55,6 +55,7 @@ module _ (rule : Rule) (a b : Told) (s s' : Session) (r : Repository) (v : View)
         said = looks.reads.only.said;
         space = λ order none slot live. nothing_space a b looks.reads.only order slot live;
         atomic = λ order. keeps_still s.store.held r r a b here.holds order looks.reads.only;
+        slots = λ order. slots_same s.store.held r a b here.holds looks.reads.only;
         nothing_pending = λ order. pending_passes a b looks.reads.only.goes (λ file. looks.reads.only.others file (λ none. none)) looks.reads.only.lending order;
         spared = λ long. let x = A.spared long in record { same = x.same; seen = x.seen; refused = by_any_rule rule (state_in s r v) command (conditions_of (met_only true)) Reply.Memory (state_in s r v) quiet x.refused };
         still = λ long. looks.reads.only;
@@ -77,6 +78,7 @@ module _ (rule : Rule) (a b : Told) (s s' : Session) (r : Repository) (v : View)
         said = looks.reads.only.said;
         space = λ order none slot live. nothing_space a b looks.reads.only order slot live;
         atomic = λ order. keeps_still s.store.held r t.1.repository a b here.holds order looks.reads.only;
+        slots = λ order. slots_same s.store.held r a b here.holds looks.reads.only;
       }
 
 pub read_serves : (tells : Bool) (a b : Told) (s s' : Session) (command : Command) (result : Result Reply SessionEnd) → IsServing s → HasRead tells a b s s' command result → IfOk result (λ reply. IsServing s')

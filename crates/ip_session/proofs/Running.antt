@@ -43,7 +43,7 @@ pub runs_as : (told known : Type 0) (rule : Rule) (a b : Told) (s s' : Session) 
 runs_as told known rule a b s s' command command' result is runs = subst (λ (x : Command). Runs told known rule a b s s' x result) (sym is) runs
 
 pub runs_ended : (told known : Type 0) (rule : Rule) (a b : Told) (s s' : Session) (command : Command) (end : SessionEnd) → EndsBy (IsKnown known a s) end → (told → MetDamage {A = Reply} (Err end) → StillBy s.store.held a b command) → (known → (r : Repository) (v : View) → IsWorking a s r v → CutBy rule a b s s' r v command) → Runs told known rule a b s s' command (Err end)
-runs_ended told known rule a b s s' command end cause untouched cut = record { serving = tt; goes = λ k r v here. tt; placed = λ k r v here. tt; clear = λ k r v here. tt; cut = cut; cause = cause; untouched = untouched }
+runs_ended told known rule a b s s' command end cause untouched cut = record { serving = tt; goes = λ k r v here. tt; placed = λ k r v here. tt; bounded = λ k r v here look. tt; clear = λ k r v here. tt; cut = cut; cause = cause; untouched = untouched }
 
 abbrev pub IsNoMerge : Command → Type 0
 IsNoMerge (Command.Merge target branch info) = ⊥
@@ -55,6 +55,7 @@ by_any_rule tells rule a b s s' _ result plain runs = record {
   serving = runs.serving;
   goes = λ known r v here. runs.goes known.0 r v here;
   placed = λ known r v here. runs.placed known.0 r v here;
+  bounded = λ known r v here look. runs.bounded known.0 r v here look;
   clear = runs.clear;
   cut = λ known r v here. runs.cut known.0 r v here;
   cause = ends_more result (IsKnown (IsTrue tells) a s) (IsKnown (IsTrue tells × IsDecisive rule) a s) (λ more. (more.0.0, more.1)) runs.cause;
@@ -79,6 +80,7 @@ runs_read tells rule a b s s' command result quiet handles unmet serving has cau
   serving = read_serves tells a b s s' command result serving has;
   goes = λ known r v here. read_goes rule tells a b s s' command known.0 r v here result quiet (asks_of command handles) has;
   placed = λ known r v here. read_placed rule tells a b s s' command known.0 r v here result quiet (none_reaps command handles) has;
+  bounded = λ known r v here look. absurd (subst HandlesNone look handles);
   clear = λ told r v here. read_clear tells a b s s' command told r v here result (none_reaps command handles) has;
   cut = λ known r v here. read_cut rule tells a b s s' command known.0 r v here result quiet (asks_of command handles) unmet has;
   cause = ends_more result (IsHeld tells a s) (IsKnown (IsTrue tells × IsDecisive rule) a s) (λ more. (more.0.0, more.1)) cause;

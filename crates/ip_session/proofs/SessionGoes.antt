@@ -1,8 +1,8 @@
 -- What comes of a line by what came of its command, and of a reply whose text was written.
 --     still_goes      nothing changed but what was met
---     lined_ok, lined_cut      the line that spells a command.      bad_goes      a line that is none.      refused_goes      memory was refused
+--     lined_ok, lined_cut, lined_bounded      the line that spells a command.      bad_goes      a line that is none.      refused_goes      memory was refused
 --     written_goes      what was written of its reply
-use Rattle.std.proofs.Common.{◌≡◌, inl, inr, ℕ, ◌^◌, ◌<◌, Bool, true, false, refl, sym, ap, subst, arith, None, Ok, Err, IsTrue, length}
+use Rattle.std.proofs.Common.{◌≡◌, inl, inr, ℕ, ◌^◌, ◌<◌, Bool, true, false, refl, sym, ap, subst, arith, Option, None, Ok, Err, IsTrue, length}
 use Rattle.std.specs.Prelude.{Result, IfOk, OnErr}
 use Rattle.ip_ground.specs.Counts.{Noted}
 use Rattle.ip_ground.specs.Told.{Told, NoFile, ChangesOnly}
@@ -21,13 +21,16 @@ use Rattle.ip_spec.specs.Machine.{State, Conditions}
 use Rattle.ip_spec.specs.Script.{LineStep}
 use Rattle.ip_spec.specs.Step.{IsSwept}
 use Rattle.ip_spec.specs.Text.{reply_text}
+use Rattle.ip_spec.specs.TreeAt.{Records}
 use Rattle.ip_spec.specs.View.{View}
 use Rattle.ip_merge.specs.Rules.{IsDecisive}
 use Rattle.ip_session.specs.declared.session.Session.{Session}
 use Rattle.ip_session.specs.declared.session.SessionEnd.{SessionEnd}
+use Rattle.ip_held.specs.declared.collection.Collection.{Collection}
 use Rattle.ip_held.specs.Held.{image_records}
 use Rattle.ip_held.specs.Views.{IsViewAfter}
-use Rattle.ip_session.specs.Asking.{QuietIfLong, Spawns}
+use Rattle.ip_held.proofs.SlotLaws.{slots_none}
+use Rattle.ip_session.specs.Asking.{IsBoundedIn, QuietIfLong, Spawns}
 use Rattle.ip_session.specs.Clearing.{ClearIn}
 use Rattle.ip_session.specs.Session.{CountsIn, IsWorking, state_in, met_only, conditions_of, IsLong, Writes, OnlyBy, OnlyIn, IsViewIn, Goes, GoesBy, GoesIn, CutBy, CutIn}
 use Rattle.ip_session.proofs.Seeing.{memory_seen, bad_seen}
@@ -56,6 +59,7 @@ still_goes a s met r v here Only Gives Views reply heard gives seen refused none
   said = (only_nowhere a NoFile).said;
   space = λ order none slot live. nothing_space a a (only_nowhere a NoFile) order slot live;
   atomic = λ order t late le. absurd (no_moment a.moment t late le);
+  slots = λ order. slots_none a;
   nothing_pending = λ order. order;
   spared = λ long. record { same = refl; seen = refl; refused = refused long };
   still = λ long. only_nowhere a NoFile;
@@ -81,6 +85,7 @@ lined rule a b s s' met r v command line reply served one h = record {
   said = h.said;
   space = h.space;
   atomic = h.atomic;
+  slots = h.slots;
   nothing_pending = h.nothing_pending;
   spared = λ long. let x = h.spared long in record { same = x.same; seen = x.seen; refused = inl (command, served, x.refused) };
   still = h.still;
@@ -94,7 +99,11 @@ lined_ok rule a b s s' met r v command line (Err end) served one h = tt
 pub lined_cut : (rule : Rule) (a b : Told) (s s' : Session) (met : Met) (r : Repository) (v : View) (command : Command) (line : Bytes) (result : Result Reply SessionEnd) → IsLineOf command line
     → OnErr result (CutBy rule a b (record s { met = met }) s' r v command) → OnErr result (CutIn rule a b s s' r v line)
 lined_cut rule a b s s' met r v command line (Ok reply) served h = tt
-lined_cut rule a b s s' met r v command line (Err end) served h = record { reply = h.reply; after = h.after; difference = h.difference; gives = inl (command, served, h.gives); judged = h.judged; stays = h.stays; only = (command, served, h.only); files = h.files; said = h.said; space = h.space; atomic = h.atomic }
+lined_cut rule a b s s' met r v command line (Err end) served h = record { reply = h.reply; after = h.after; difference = h.difference; gives = inl (command, served, h.gives); judged = h.judged; stays = h.stays; only = (command, served, h.only); files = h.files; said = h.said; space = h.space; atomic = h.atomic; slots = h.slots }
+
+pub lined_bounded : (records : Records) (before : Option Collection) (command : Command) (line : Bytes) (result : Result Reply SessionEnd) → ((other : Command) → IsLineOf other line → other ≡ command)
+    → (command ≡ Command.Look → IfOk result (IsBoundedIn records before)) → IsLineOf Command.Look line → IfOk result (IsBoundedIn records before)
+lined_bounded records before command line result one bounded look = bounded (sym (one Command.Look look))
 
 -- a line that is no command
 pub bad_goes : (rule : Rule) (a : Told) (s : Session) (met : Met) (r : Repository) (v : View) (here : IsWorking a s r v) (line : Bytes) (place : ℕ) → met ≡ met_only false → IsBadAt IsLineOf line place → length line < 2 ^ 64
@@ -139,6 +148,7 @@ memory_instead a b s s' met r v Only Gives Views reply h long e seen none = reco
   said = h.said;
   space = λ order none slot live. nothing_space a b (h.still long) order slot live;
   atomic = h.atomic;
+  slots = h.slots;
   nothing_pending = h.nothing_pending;
   spared = λ again. absurd (omega (arith, again, memory_is_short));
   still = λ again. h.still long;
@@ -151,18 +161,22 @@ Tells tells rule a b s s' line reply = IsTrue tells → IsDecisive rule → (r :
 abbrev Places : (tells : Bool) (rule : Rule) (a : Told) (s s' : Session) (line : Bytes) (reply : Reply) → Type 0
 Places tells rule a s s' line reply = IsTrue tells → IsDecisive rule → (r : Repository) (v : View) (here : IsWorking a s r v) → PlacedIn rule (image_records here.holds) s.store.held.slot s.store.held.unswept s'.store.held.slot (state_in s r v) v line reply
 
+abbrev Bounds : (tells : Bool) (rule : Rule) (a : Told) (s : Session) (line : Bytes) (reply : Reply) → Type 0
+Bounds tells rule a s line reply = IsTrue tells → IsDecisive rule → (r : Repository) (v : View) (here : IsWorking a s r v) → IsLineOf Command.Look line → IsBoundedIn here.holds.stands.standing.records s.store.held.collection reply
+
 abbrev Clears : (tells : Bool) (a b : Told) (s s' : Session) (line : Bytes) (reply : Reply) → Type 0
 Clears tells a b s s' line reply = IsTrue tells → (r : Repository) (v : View) → IsWorking a s r v → ClearIn a b s s' line reply
 
 -- what was written of its reply
 module _ (tells : Bool) (rule : Rule) (a b : Told) (s s' : Session) (met : Met) (line : Bytes) (reply : Reply) where
   abbrev Written : Reply → Type 0
-  Written written = (IsTrue tells → IsDecisive rule → (r : Repository) (v : View) (here : IsWorking a s r v) → GoesIn rule a b s (record s' { met = met }) r v line written × PlacedIn rule (image_records here.holds) s.store.held.slot s.store.held.unswept s'.store.held.slot (state_in s r v) v line written)
+  Written written = (IsTrue tells → IsDecisive rule → (r : Repository) (v : View) (here : IsWorking a s r v) → GoesIn rule a b s (record s' { met = met }) r v line written × PlacedIn rule (image_records here.holds) s.store.held.slot s.store.held.unswept s'.store.held.slot (state_in s r v) v line written
+      × (IsLineOf Command.Look line → IsBoundedIn here.holds.stands.standing.records s.store.held.collection written))
       × (IsTrue tells → (r : Repository) (v : View) → IsWorking a s r v → ClearIn a b s (record s' { met = met }) line written)
 
-  whole_goes : met ≡ s'.met → Tells tells rule a b s s' line reply → Places tells rule a s s' line reply → Clears tells a b s s' line reply → Written reply
-  whole_goes is goes placed clears = (
-    λ told decisive r v here. (subst (λ (m : Met). GoesIn rule a b s (record s' { met = m }) r v line reply) (sym is) (goes told decisive r v here), placed told decisive r v here),
+  whole_goes : met ≡ s'.met → Tells tells rule a b s s' line reply → Places tells rule a s s' line reply → Bounds tells rule a s line reply → Clears tells a b s s' line reply → Written reply
+  whole_goes is goes placed bounded clears = (
+    λ told decisive r v here. (subst (λ (m : Met). GoesIn rule a b s (record s' { met = m }) r v line reply) (sym is) (goes told decisive r v here), placed told decisive r v here, bounded told decisive r v here),
     λ told r v here. subst (λ (m : Met). ClearIn a b s (record s' { met = m }) line reply) (sym is) (clears told r v here),
   )
 
@@ -172,18 +186,20 @@ module _ (tells : Bool) (rule : Rule) (a b : Told) (s s' : Session) (met : Met) 
         let went = goes told decisive r v here in (
           memory_instead a b s s' met r v (OnlyIn s.store.held a b line) (LineStep IsLineOf rule (state_in s r v) line) (IsViewIn r v line) reply went long is (refused_in r v line) (nothing_only s.store.held a b line Reply.Memory),
           quiet_placed rule (image_records here.holds) s.store.held.slot s.store.held.unswept s'.store.held.slot (state_in s r v) v line Reply.Memory (λ command h. h) (λ command h. h) (λ l is. absurd (cc is)) tt (still_slot s.store.held s'.store.held r went.after a b here.holds went.is_at.holds (went.still long)),
+          λ look. tt,
         ),
     λ told r v here. quiet_clear a b s (record s' { met = met }) line Reply.Memory (λ h. h) (clears told r v here).keeps (clear_same a b s s' line reply unswept (clears told r v here)),
   )
 
   module _ (spawner_tells : Bool) (dir : Bytes) (x y : spawn.Told) (m n : SpawnCounts) (old new : Noted) (text : Bytes) where
-    pub written_goes : Tells tells rule a b s s' line reply → Writes reply s'.met met text → Places tells rule a s s' line reply → Clears tells a b s s' line reply → Spawns spawner_tells dir x y s s' line (Ok reply) m n → CountsIn line (Ok reply) s'.met old new → QuietIfLong s'.met old new reply
+    pub written_goes : Tells tells rule a b s s' line reply → Writes reply s'.met met text → Places tells rule a s s' line reply → Bounds tells rule a s line reply → Clears tells a b s s' line reply → Spawns spawner_tells dir x y s s' line (Ok reply) m n → CountsIn line (Ok reply) s'.met old new → QuietIfLong s'.met old new reply
         → (written : Reply) × (text ≡ reply_text written) × Spawns spawner_tells dir x y s (record s' { met = met }) line (Ok written) m n × CountsIn line (Ok written) met old new
-        × (IsTrue tells → IsDecisive rule → (r : Repository) (v : View) (here : IsWorking a s r v) → GoesIn rule a b s (record s' { met = met }) r v line written × PlacedIn rule (image_records here.holds) s.store.held.slot s.store.held.unswept s'.store.held.slot (state_in s r v) v line written)
+        × (IsTrue tells → IsDecisive rule → (r : Repository) (v : View) (here : IsWorking a s r v) → GoesIn rule a b s (record s' { met = met }) r v line written × PlacedIn rule (image_records here.holds) s.store.held.slot s.store.held.unswept s'.store.held.slot (state_in s r v) v line written
+        × (IsLineOf Command.Look line → IsBoundedIn here.holds.stands.standing.records s.store.held.collection written))
         × (IsTrue tells → (r : Repository) (v : View) → IsWorking a s r v → ClearIn a b s (record s' { met = met }) line written)
-    written_goes goes (inl whole) placed clears spawns counts quiet =
+    written_goes goes (inl whole) placed bounded clears spawns counts quiet =
         let told = whole_asked spawner_tells dir x y s s' met line reply m n old new spawns counts whole.0 in
-        (let goes = whole_goes whole.0 goes placed clears in (reply, whole.1, told.0, told.1, goes.0, goes.1))
-    written_goes goes (inr refused) placed clears spawns counts quiet =
+        (let goes = whole_goes whole.0 goes placed bounded clears in (reply, whole.1, told.0, told.1, goes.0, goes.1))
+    written_goes goes (inr refused) placed bounded clears spawns counts quiet =
         let told = unwritten spawner_tells dir x y s s' met line reply m n old new spawns refused.0 quiet refused.1 in
         (let went = memory_goes refused.0 (quiet refused.0).3 refused.1 goes clears in (Reply.Memory, refused.2, told.0, told.1, went.0, went.1))

@@ -38,6 +38,7 @@ use Rattle.ip_held.specs.Views.{IsViewAfter}
 use Rattle.ip_held.specs.Work.{AreParents, work_at}
 use Rattle.ip_held.proofs.Apart.{for_more}
 use Rattle.ip_held.proofs.Works.{works_stay}
+use Rattle.ip_held.proofs.SlotLaws.{slots_none}
 use Rattle.ip_session.specs.declared.session.Session.{Session}
 use Rattle.ip_session.specs.declared.session.SessionEnd.{SessionEnd}
 use Rattle.ip_session.specs.Placing.{HasCollected, PlacedBy, AttemptsLeft}
@@ -216,6 +217,7 @@ module _ (a b : Told) (s : Session) (store : Store) (r : Repository) (v : View) 
         said = M.only.said;
         space = λ order none slot live. M.space order slot live;
         atomic = λ order t late le. let at_t = M.recovers order t late le in record { stands = λ image possible. inl (at_t.stands image possible); flushed = at_t.flushed };
+        slots = M.slots;
         nothing_pending = λ order. M.nothing_pending order is;
         spared = λ long. absurd (short long);
         still = λ long. absurd (short long);
@@ -247,6 +249,7 @@ module _ (a b : Told) (s : Session) (store : Store) (r : Repository) (v : View) 
           said = (only_nowhere a NoFile).said;
           space = λ order none slot live. nothing_space a a (only_nowhere a NoFile) order slot live;
           atomic = λ order t late le. absurd (omega (arith, late, le));
+          slots = λ order. slots_none a;
           nothing_pending = λ order. order;
           spared = λ long. record { same = refl; seen = refl; refused = collect_refused target r (phase_of s.store.held.collection) (work_at s.work v) };
           still = λ long. only_nowhere a NoFile;
@@ -292,6 +295,7 @@ module _ (a b : Told) (s : Session) (store : Store) (r : Repository) (v : View) 
         said = M.only.said;
         space = λ order none slot live. M.space order slot live;
         atomic = λ order moment late le. let at_it = M.recovers order moment late le in record { stands = λ image possible. inl (at_it.stands image possible); flushed = at_it.flushed };
+        slots = M.slots;
       }
 
   pub start_cut : (begun : Result Hash CollectFault) (met : Met) (result : Result Reply SessionEnd) → StartReplies r begun store.met met result → Replies r begun Answers → store.met ≡ met_by_start begun → StartsCollection r s.store.held.slot.next_attempt begun store.held a b

@@ -2,6 +2,7 @@
 --     HasStarted result      the answer that a child was started
 --     GoesOnBy jobs before now      a collection that goes on is that of the child that was started, or the one that ran before
 --     looks      so many records a look looks at.      IsSlicedIn before now reply      behind one that is not through
+--     IsBoundedIn records before reply      behind one that collects
 --     Asked s s' command result jobs ends before after      these jobs were started, and children reaped that ended so
 --     starts_in dir jobs      their starts, each in the folder of this name
 --     AskedIn s s' line result jobs ends before after      so by a line
@@ -10,10 +11,11 @@
 --     HeardOf c kept reaped ends before after      how the child ended that was heard of: it was reaped now, or its exit was kept
 --     QuietIfLong met old new reply      a long reply tells of no child and of no sweep, none was met, and no fault was counted before it
 --     Spawns tells dir old new s s' line result before after      some were, in this folder, and the spawner tells it
-use Rattle.std.specs.Prelude.{◌≡◌, ◌≢◌, ◌⊎◌, ◌≤◌, ℕ, List, [], ◌∷◌, ◌++◌, map, Bool, false, Option, Some, None, IsSome, IfSome, IsSomeAnd, IsTrue, IfOk, Result, Ok}
-use Rattle.ip_ground.specs.Counts.{Noted, Rose}
+use Rattle.std.specs.Prelude.{◌≡◌, ◌≢◌, ◌⊎◌, ◌+◌, ◌≤◌, ℕ, count_by, List, [], ◌∷◌, ◌++◌, map, Bool, true, false, Option, Some, None, IsSome, IfSome, IsSomeAnd, IsTrue, IsErr, IfOk, Result, Ok}
+use Rattle.ip_ground.specs.Counts.{Noted}
 use Rattle.ip_base.specs.declared.exit.Reaped.{Reaped}
 use Rattle.ip_spawn.specs.Children.{Start, Told}
+use Rattle.ip_spawn.specs.Counts.{counted}
 use Rattle.ip_spawn.specs.declared.job.Job.{Job}
 use Rattle.ip_spawn.specs.declared.spawner.SpawnCounts.{SpawnCounts}
 use Rattle.ip_spec.specs.declared.command.Command.{Command}
@@ -24,6 +26,8 @@ use Rattle.ip_spec.specs.Machine.{exit_kept}
 use Rattle.ip_spec.specs.Path.{Bytes}
 use Rattle.ip_spec.specs.Line.{IsLineOf}
 use Rattle.ip_spec.specs.Step.{IsSwept}
+use Rattle.ip_spec.specs.TreeAt.{Records}
+use Rattle.ip_keep.specs.Keeping.{starts_between}
 use Rattle.ip_held.specs.declared.collection.Collection.{Collection}
 use Rattle.ip_held.specs.Collecting.{phase_of}
 use Rattle.ip_collects.specs.Concluding.{most_of}
@@ -59,16 +63,17 @@ TellsNone (Reply.RejectedExit exit) = ⊥
 TellsNone (Reply.Rejected difference) = ⊥
 TellsNone reply = Unit {0}
 
+-- nor did a removal fail
 abbrev pub MeetsNone : Met → Type 0
-MeetsNone met = (met.start_failed ≡ false) × (met.kill_failed ≡ false) × (met.child ≡ Child.NotAsked)
+MeetsNone met = (met.start_failed ≡ false) × (met.kill_failed ≡ false) × (met.child ≡ Child.NotAsked) × (met.left ≡ 0)
 
 -- so want of memory may be told in its place
 abbrev pub QuietIfLong : Met → Noted → Noted → Reply → Type 0
-QuietIfLong met old new reply = IsLong reply → (¬ HasStarted (Ok reply)) × (met.child ≡ Child.NotAsked) × (new ≡ old) × (¬ IsSwept reply)
+QuietIfLong met old new reply = IsLong reply → (¬ HasStarted (Ok reply)) × MeetsNone met × (new ≡ old) × (¬ IsSwept reply)
 
 -- by a command that began while the collection ran
 abbrev pub HeardOf : Collection → Reaped → List Reaped → SpawnCounts → SpawnCounts → Type 0
-HeardOf c reaped ends before after = (reaped.attempt ≡ c.job.attempt) × (((c.exit ≡ None) × (ends ≡ reaped ∷ []) × Rose before.reaps after.reaps) ⊎ ((c.exit ≡ Some reaped) × (ends ≡ []) × (after ≡ before)))
+HeardOf c reaped ends before after = (reaped.attempt ≡ c.job.attempt) × (((c.exit ≡ None) × (ends ≡ reaped ∷ []) × (after.reaps ≡ counted true before.reaps)) ⊎ ((c.exit ≡ Some reaped) × (ends ≡ []) × (after ≡ before)))
 
 -- with the same commit and the same job, and an exit that was kept is so still; and no record that was looked at is to be looked at again
 abbrev pub GoesOnBy : List Job → Option Collection → Option Collection → Type 0
@@ -83,6 +88,11 @@ abbrev pub IsSlicedIn : Option Collection → Option Collection → Reply → Ty
 IsSlicedIn before now (Reply.Checking left) = IsSomeAnd before (λ c. IsSliced looks c left now)
 IsSlicedIn before now reply = Unit {0}
 
+-- A look that collects has looked at no more records than any: those from the commit on are not more than these and what was looked at before.
+abbrev pub IsBoundedIn : Records → Option Collection → Reply → Type 0
+IsBoundedIn records before (Reply.Collected floor left) = IsSomeAnd before (λ c. count_by (starts_between c.job.horizon c.job.end) records ≤ looked_at c + looks)
+IsBoundedIn records before reply = Unit {0}
+
 -- A child is started by `collect` alone, where it says so. One is looked at by `look` alone, and waited for by `finish` alone; these two and `cancel` may reap it.
 pub record Asked (s s' : Session) (command : Command) (result : Result Reply SessionEnd) (jobs : List Job) (ends : List Reaped) (before after : SpawnCounts) : Type 0 where
   -- the job is that of the collection that goes on
@@ -91,22 +101,25 @@ pub record Asked (s s' : Session) (command : Command) (result : Result Reply Ses
   pub goes_on : IfOk result (λ reply. GoesOnBy jobs s.store.held.collection s'.store.held.collection)
   pub sliced : IfOk result (IsSlicedIn s.store.held.collection s'.store.held.collection)
   -- it was seen to run where that is met, and else not
-  pub running : s'.met.child ≡ Child.Running → Rose before.running after.running
+  pub running : s'.met.child ≡ Child.Running → after.running ≡ counted true before.running
   pub not_running : s'.met.child ≢ Child.Running → after.running ≡ before.running
-  pub waits : before.waits ≤ after.waits
+  -- a finish waits once at most, and once where it reaps one, or could not
+  pub waits : (after.waits ≡ before.waits) ⊎ (after.waits ≡ counted true before.waits)
   pub no_wait : command ≢ Command.Finish → after.waits ≡ before.waits
-  -- one that a finish reaped was waited for
-  pub waited : command ≡ Command.Finish → ends ≢ [] → Rose before.waits after.waits
-  pub reaps : before.reaps ≤ after.reaps
+  pub waited : command ≡ Command.Finish → (ends ≢ []) ⊎ (s'.met.child ≡ Child.Fault) → after.waits ≡ counted true before.waits
+  pub reaps : (after.reaps ≡ before.reaps) ⊎ (after.reaps ≡ counted true before.reaps)
   pub none_reaped : ¬ MayReap command → (ends ≡ []) × (after.reaps ≡ before.reaps)
   -- what is met of it is what the spawner answered now, or what was kept
   pub heard : (reaped : Reaped) → s'.met.child ≡ Child.Ended reaped → IsSomeAnd s.store.held.collection (λ c. HeardOf c reaped ends before after)
-  pub unheard : s'.met.child ≡ Child.Fault → Rose before.spawn_faults after.spawn_faults
   -- a kill reaps, and a child that had been reaped needs none
-  pub cancelled : result ≡ Ok Reply.Cancelled → Rose before.reaps after.reaps ⊎ IsSome (exit_kept (phase_of s.store.held.collection))
-  pub spawn_faults : before.spawn_faults ≤ after.spawn_faults
-  pub start : IsTrue s'.met.start_failed → Rose before.spawn_faults after.spawn_faults
-  pub kill : IsTrue s'.met.kill_failed → Rose before.spawn_faults after.spawn_faults
+  pub cancelled : result ≡ Ok Reply.Cancelled → (after.reaps ≡ counted true before.reaps) ⊎ IsSome (exit_kept (phase_of s.store.held.collection))
+  -- a call that failed is met, and is the one that failed
+  pub unheard : s'.met.child ≡ Child.Fault → after.spawn_faults ≡ counted true before.spawn_faults
+  pub start : IsTrue s'.met.start_failed → after.spawn_faults ≡ counted true before.spawn_faults
+  pub kill : IsTrue s'.met.kill_failed → after.spawn_faults ≡ counted true before.spawn_faults
+  pub no_fault : s'.met.child ≢ Child.Fault → s'.met.start_failed ≡ false → s'.met.kill_failed ≡ false → after.spawn_faults ≡ before.spawn_faults
+  -- of one that was cut short no start and no kill failed, and no removal
+  pub cut : IsErr result → (s'.met.start_failed ≡ false) × (s'.met.kill_failed ≡ false) × (s'.met.left ≡ 0)
 
 -- a line that is no command asks nothing
 pub record AskedIn (s s' : Session) (line : Bytes) (result : Result Reply SessionEnd) (jobs : List Job) (ends : List Reaped) (before after : SpawnCounts) : Type 0 where
@@ -125,9 +138,9 @@ pub record Spawns (tells : Bool) (dir : Bytes) (old new : Told) (s s' : Session)
   pub told : IsTrue tells → new ≡ record { started = old.started ++ starts_in dir jobs; reaped = old.reaped ++ ends }
   pub asked : AskedIn s s' line result jobs ends before after
 
--- no child is looked at, waited for or started
+-- no child is looked at, waited for or started, and one is killed at most
 pub record LetsGo (before after : SpawnCounts) : Type 0 where
   pub running : after.running ≡ before.running
   pub waits : after.waits ≡ before.waits
-  pub reaps : before.reaps ≤ after.reaps
-  pub spawn_faults : before.spawn_faults ≤ after.spawn_faults
+  pub reaps : (after.reaps ≡ before.reaps) ⊎ (after.reaps ≡ counted true before.reaps)
+  pub spawn_faults : (after.spawn_faults ≡ before.spawn_faults) ⊎ (after.spawn_faults ≡ counted true before.spawn_faults)

@@ -14,7 +14,8 @@ use Rattle.ip_spec.specs.Step.{IsSwept}
 use Rattle.ip_image.specs.declared.slot.Slot.{Slot}
 use Rattle.ip_held.specs.declared.collection.Unswept.{Unswept}
 use Rattle.ip_held.specs.Clear.{KeepsClear, ClearsAll}
-use Rattle.ip_held.specs.Sweeping.{swept_to}
+use Rattle.ip_held.specs.Sweeping as sweeping
+use Rattle.ip_held.specs.Sweeping.{AllBut, swept_to}
 use Rattle.ip_session.specs.declared.session.Session.{Session}
 
 abbrev pub SweepsBehind : Command → Reply → Type 0
@@ -32,6 +33,8 @@ pub record ClearBy (swept : Type 0) (old new : Told) (s s' : Session) : Type 0 w
   pub all : ClearsAll swept s'.met.left s.store.held s'.store.held old new
   pub unswept : ¬ swept → s'.store.held.unswept ≡ s.store.held.unswept
   pub behind : swept → s'.store.held.unswept ≡ unswept_behind s'.met.left s'.store.held.slot s.store.held.unswept
+  -- of what it was to remove all is gone but so many files
+  pub all_but : swept → AllBut (sweeping.IsSwept s'.store.held.slot s.store.held.unswept) s'.met.left new new
   -- a sweep is made only where no child changes the attempt's files any more
   pub settled : swept → IsSomeAnd s.store.held.collection (λ c. (pair : Image) × IsSettledAs new c.job.attempt pair)
 

@@ -19,7 +19,7 @@ use Rattle.ip_held.specs.Collecting.{child_of}
 use Rattle.ip_held.specs.Held.{image_records}
 use Rattle.ip_session.specs.declared.session.Session.{Session}
 use Rattle.ip_session.specs.declared.session.SessionEnd.{SessionEnd}
-use Rattle.ip_session.specs.Asking.{Asked, QuietIfLong, starts_in}
+use Rattle.ip_session.specs.Asking.{Asked, IsBoundedIn, QuietIfLong, starts_in}
 use Rattle.ip_session.specs.Clearing.{ClearBy, SweepsBehind}
 use Rattle.ip_session.specs.Placing.{PlacedBy}
 use Rattle.ip_session.specs.Session.{IsServing, IsWorking, state_in, CountsBy, CutBy, EndsBy, GoesBy, MetDamage, StillBy}
@@ -36,6 +36,8 @@ pub record Runs (told known : Type 0) (rule : Rule) (old new : Told) (s s' : Ses
   pub goes : known → (r : Repository) (v : View) → IsWorking old s r v → IfOk result (GoesBy rule old new s s' r v command)
   -- its records lie behind those that there were
   pub placed : known → (r : Repository) (v : View) (here : IsWorking old s r v) → IfOk result (PlacedBy rule (image_records here.holds) s.store.held.slot s.store.held.unswept s'.store.held.slot (state_in s r v) v command)
+  -- a look looks at so many records at most
+  pub bounded : known → (r : Repository) (v : View) (here : IsWorking old s r v) → command ≡ Command.Look → IfOk result (IsBoundedIn here.holds.stands.standing.records s.store.held.collection)
   -- what was cleared away stays so, and behind a sweep that left nothing all that it was to remove is gone
   pub clear : told → (r : Repository) (v : View) → IsWorking old s r v → IfOk result (λ reply. ClearBy (SweepsBehind command reply) old new s s')
   -- a fault of the ground or of its files cut it short

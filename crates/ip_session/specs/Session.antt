@@ -61,6 +61,7 @@ use Rattle.ip_collects.specs.Finishing.{swapped_slot, Judges, Serves}
 use Rattle.ip_publish.specs.Publishing.{MayChange}
 use Rattle.ip_held.specs.Showing.{fault_from}
 use Rattle.ip_held.specs.Held.{IsOf, image_records}
+use Rattle.ip_held.specs.Slots.{KeepsSlots}
 use Rattle.ip_held.specs.Sweeping.{IsSwept, ChangesFor, EndsFor, KeepsFiles}
 use Rattle.ip_held.specs.Trees.{OnlyLooks}
 use Rattle.ip_held.specs.Views.{IsViewAfter}
@@ -263,6 +264,7 @@ pub record Goes (old new : Told) (s s' : Session) (r : Repository) (v : View) (O
   pub space : KeepsSpaceIn old new s'
   -- at every moment whatever a crash leaves stands for the repository before or after it
   pub atomic : NothingPending old → IsAtomic old new r after
+  pub slots : NothingPending old → KeepsSlots old new
   pub nothing_pending : NothingPending old → NothingPending new
   pub spared : IsLong reply → IsSpared (state_in s r v) (state_in s' after view) v view Gives
   pub still : IsLong reply → ChangesOnly NoFile old new
@@ -280,6 +282,7 @@ pub record Cut (old new : Told) (s s' : Session) (r : Repository) (v : View) (To
   pub said : KeepsSaid old new
   pub space : KeepsSpaceIn old new s'
   pub atomic : NothingPending old → IsAtomic old new r after.repository
+  pub slots : NothingPending old → KeepsSlots old new
 
 abbrev pub GoesBy : Rule → Told → Told → Session → Session → Repository → View → Command → Reply → Type 0
 GoesBy rule old new s s' r v command = Goes old new s s' r v (OnlyBy s.store.held old new command) (Step rule (state_in s r v) command) (IsViewAfter r v command)

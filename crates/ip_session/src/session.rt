@@ -13,6 +13,7 @@ ghost use Rattle.ip_spec.specs.declared.command.Command.TheVariants as Command;
 ghost use Rattle.ip_spec.specs.declared.reply.Reply.{Reply};
 ghost use Rattle.ip_spec.specs.declared.reply.Reply.TheVariants as Reply;
 ghost use Rattle.ip_spec.specs.Step.{resolve, least_with, phase_at};
+ghost use Rattle.ip_spec.specs.Line.{IsLineOf};
 ghost use Rattle.ip_spec.specs.Text.{reply_text};
 ghost use Rattle.ip_held.specs.Collecting.{child_of, phase_of};
 ghost use Rattle.ip_held.specs.Answers.{met_nothing};
@@ -20,7 +21,7 @@ ghost use Rattle.ip_held.specs.Held.{IsOf, image_records};
 ghost use Rattle.ip_held.specs.Work.{IsLawful, IsThere};
 ghost use Rattle.ip_merge.specs.Rules.{IsDecisive};
 ghost use Rattle.ip_session.specs.Clearing.{ClearIn};
-ghost use Rattle.ip_session.specs.Asking.{QuietIfLong, MeetsNone, Spawns, TellsNone};
+ghost use Rattle.ip_session.specs.Asking.{IsBoundedIn, QuietIfLong, MeetsNone, Spawns, TellsNone};
 ghost use Rattle.ip_session.specs.Placing.{PlacedIn};
 ghost use Rattle.ip_session.specs.Running.{Ran};
 ghost use Rattle.ip_session.specs.Wanting.{Wants, WantsIn};
@@ -319,6 +320,9 @@ impl Session {
             IfOk result (GoesIn (D.rule rules.now) (G.told ground.old) (G.told ground.new) self.old self.new r v line.now) }
         ensures placed { IsTrue G.tells → IsDecisive (D.rule rules.now) → (r : Repository) (v : View) (here : IsWorking (G.told ground.old) self.old r v) →
             IfOk result (PlacedIn (D.rule rules.now) (image_records here.holds) self.old.store.held.slot self.old.store.held.unswept self.new.store.held.slot (state_in self.old r v) v line.now) }
+        // A look looks at so many records at most.
+        ensures bounded { IsTrue G.tells → IsDecisive (D.rule rules.now) → (r : Repository) (v : View) (here : IsWorking (G.told ground.old) self.old r v) → IsLineOf Command.Look line.now →
+            IfOk result (IsBoundedIn here.holds.stands.standing.records self.old.store.held.collection) }
         ensures clear { IsTrue G.tells → (r : Repository) (v : View) → IsWorking (G.told ground.old) self.old r v →
             IfOk result (ClearIn (G.told ground.old) (G.told ground.new) self.old self.new line.now) }
         ensures cut { IsTrue G.tells → IsDecisive (D.rule rules.now) → (r : Repository) (v : View) → IsWorking (G.told ground.old) self.old r v →
@@ -363,7 +367,8 @@ impl Session {
             × Spawns P.tells dir.now (P.told spawner.old) (P.told spawner.new) self.old self.new line.now (Ok reply) (P.counts_of spawner.old) (P.counts_of spawner.new)
             × CountsIn line.now (Ok reply) self.new.met (G.counts_of ground.old) (G.counts_of ground.new) × (IsTrue G.tells → IsDecisive (D.rule rules.now) → (r : Repository) (v : View) (here : IsWorking (G.told ground.old) self.old r v) →
             GoesIn (D.rule rules.now) (G.told ground.old) (G.told ground.new) self.old self.new r v line.now reply
-            × PlacedIn (D.rule rules.now) (image_records here.holds) self.old.store.held.slot self.old.store.held.unswept self.new.store.held.slot (state_in self.old r v) v line.now reply)
+            × PlacedIn (D.rule rules.now) (image_records here.holds) self.old.store.held.slot self.old.store.held.unswept self.new.store.held.slot (state_in self.old r v) v line.now reply
+            × (IsLineOf Command.Look line.now → IsBoundedIn here.holds.stands.standing.records self.old.store.held.collection reply))
             × (IsTrue G.tells → (r : Repository) (v : View) → IsWorking (G.told ground.old) self.old r v → ClearIn (G.told ground.old) (G.told ground.new) self.old self.new line.now reply)) }
         ensures cut { IsTrue G.tells → IsDecisive (D.rule rules.now) → (r : Repository) (v : View) → IsWorking (G.told ground.old) self.old r v →
             OnErr result (CutIn (D.rule rules.now) (G.told ground.old) (G.told ground.new) self.old self.new r v line.now) }

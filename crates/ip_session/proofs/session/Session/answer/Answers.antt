@@ -8,6 +8,6 @@ use Rattle.ip_session.proofs.SessionGoes.{written_goes}
 use Rattle.ip_session.proofs.session.Session.answer.Goals as goal
 
 pub returns-in-Ok-clause-goes : goal.returns-in-Ok-clause-goes
-returns-in-Ok-clause-goes g c = written_goes _ _ _ _ c.args.self.now c.step.new.self c.put_reply.new.met c.args.line.now c.in-Ok.reply _ _ _ _ _ _ _ _ _ c.in-Ok.ensures.goes c.put_reply.ensures.written c.in-Ok.ensures.placed c.in-Ok.ensures.clear
+returns-in-Ok-clause-goes g c = written_goes _ _ _ _ c.args.self.now c.step.new.self c.put_reply.new.met c.args.line.now c.in-Ok.reply _ _ _ _ _ _ _ _ _ c.in-Ok.ensures.goes c.put_reply.ensures.written c.in-Ok.ensures.placed c.in-Ok.ensures.bounded c.in-Ok.ensures.clear
     (subst (λ (x : Result Reply SessionEnd). Spawns g.P.Spawner.tells c.args.dir.now (g.P.Spawner.told c.args.spawner.now) (g.P.Spawner.told c.step.new.spawner) c.args.self.now c.step.new.self c.args.line.now x (g.P.Spawner.counts_of c.args.spawner.now) (g.P.Spawner.counts_of c.step.new.spawner)) c.in-Ok.is c.step.ensures.asked)
     (subst (λ (x : Result Reply SessionEnd). CountsIn c.args.line.now x c.step.new.self.met (g.G.Ground.counts_of c.args.ground.now) (g.G.Ground.counts_of c.step.new.ground)) c.in-Ok.is c.step.ensures.counts) c.in-Ok.ensures.quiet

@@ -9,7 +9,7 @@ use Rattle.ip_held.specs.Collecting.{child_of, Collects}
 use Rattle.ip_session.specs.Running.{IsKnown, Ran}
 use Rattle.ip_session.specs.Session.{unasked}
 use Rattle.ip_session.proofs.Asking.{cancel_asked, cancel_counts, cancel_quiet, cancel_ends, cancel_sound}
-use Rattle.ip_session.proofs.ClearGoes.{cancel_clear, cancel_runs, cancel_settles, if_there}
+use Rattle.ip_session.proofs.ClearGoes.{cancel_clear, cancel_ran, cancel_runs, cancel_settles, if_there, Remains}
 use Rattle.ip_session.proofs.Wanted.{cancel_wants}
 use Rattle.ip_session.proofs.CancelGoes.{over_slot, over_none, cancel_serves, cancel_placed, cancel_does, cancel_cuts}
 use Rattle.ip_session.proofs.session.Session.cancel.Goals as goal
@@ -38,8 +38,10 @@ returns g c dir =
         goes = λ tells r v here. cancel_does a b s store met left done c.met-self.ensures slot_is r v here C.runs (C.answered r here.holds.tables) (λ idle. ap g.G.Ground.told (call.ensures.idle idle).0) (λ orphan. ap g.G.Ground.told (call.ensures.orphan orphan))
             C.unswept C.same (λ x runs. C.any_moment tells r here.holds x runs) (λ ok q now. C.stay tells ok r q here.holds now);
         placed = λ tells r v here. cancel_placed a b s store met left done c.met-self.ensures slot_is r v here done;
+        bounded = λ tells r v here look. absurd (cc look);
         clear = λ tells r v here. cancel_clear a b s store met c.met-self.ensures done (λ answers. C.clear tells answers r here.holds) slot_is C.unswept
-            (λ over. cancel_runs (λ (x : Collection). (pair : Image) × IsSettledAs b x.job.attempt pair) s.store.held done C.runs over (λ c runs. cancel_settles a b s.store.held.slot here.holds.stands.standing.records r c done s.store.held.unswept store.met.left store.held (if_there (Collects a s.store.held.slot here.holds.stands.standing.records r) s.store.held.collection c runs here.holds.collects) (C.any_moment tells r here.holds c runs) over));
+            (λ over. cancel_runs (λ (x : Collection). (pair : Image) × IsSettledAs b x.job.attempt pair) s.store.held done C.runs over (λ c runs. cancel_settles a b s.store.held.slot here.holds.stands.standing.records r c done s.store.held.unswept store.met.left store.held (if_there (Collects a s.store.held.slot here.holds.stands.standing.records r) s.store.held.collection c runs here.holds.collects) (C.any_moment tells r here.holds c runs) over))
+            (λ over. cancel_ran (Remains a b s store met c.met-self.ensures) s.store.held done C.runs over (λ c runs. (C.any_moment tells r here.holds c runs).all_but over));
         cut = λ tells r v here. cancel_cuts a b s store met left done c.met-self.ensures slot_is r v here C.runs is_met (λ x runs. C.any_moment tells r here.holds x runs);
         cause = cancel_ends done (IsKnown (IsTrue g.G.Ground.tells) a s);
         untouched = λ told damaged. absurd (cancel_sound done damaged);

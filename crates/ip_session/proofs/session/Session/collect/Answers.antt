@@ -39,6 +39,7 @@ returns-in-Collecting g c =
             (sym (c.retained_name.ensures r here.holds.tables (retained_at s.store.held.slot r s.store.held.collection c.in-Collecting.commit _ here.holds.tables.phase told)))
             (busy_goes _ s r v here c.args.target c.in-Collecting.commit c.requires.met (runs_at s.store.held.collection c.in-Collecting.commit _ told));
         placed = λ tells r v here. busy_placed (image_records here.holds) _ _ (state_in s r v) v c.args.target c.retained_name.result;
+        bounded = λ tells r v here look. absurd (cc look);
         clear = λ tells r v here. keeps_by _ _ s s (Command.Collect c.args.target) busy (λ may. may) (λ clear. clear) refl;
         cut = λ tells r v here. tt;
         cause = tt;
@@ -62,6 +63,7 @@ returns-in-Err g c =
         serving = c.requires.tables;
         goes = λ tells r v here. unnamed_start _ s r v here c.args.target c.in-Err.reply c.requires.met (runs_none s.store.held.collection (λ n k is. c.in_default.not-Collecting n k (c.phase.ensures ∙ is))) (sym (c.in-Err.ensures.number r here.holds.tables));
         placed = λ tells r v here. unnamed_start_placed (image_records here.holds) _ _ (state_in s r v) v c.args.target c.in-Err.reply (sym (c.in-Err.ensures.number r here.holds.tables));
+        bounded = λ tells r v here look. absurd (cc look);
         clear = λ tells r v here. keeps_by _ _ s s (Command.Collect c.args.target) c.in-Err.reply (λ may. may) (λ clear. clear) refl;
         cut = λ tells r v here. tt;
         cause = tt;
@@ -115,6 +117,7 @@ returns g c =
             let of = here.holds.tables in
             start_placed _ _ s store r v here target n (named r of) begun met result (says r of) (answered r of) call.ensures.met (B.limits r of)
             (λ begun. B.begins tells begun r of) (λ down. let same : store.held.slot ≡ s.store.held.slot = ap (λ (x : Held). x.slot) (B.turned_down down) in same);
+        bounded = λ tells r v here look. absurd (cc look);
         clear = λ tells r v here. start_clear _ _ s store met r target store.met begun result (says r here.holds.tables) (λ answers. B.clear tells answers r here.holds) B.unswept;
         cut = λ tells r v here. let of = here.holds.tables in start_cut _ _ s store r v here target n (named r of) begun met result (says r of) (answered r of) call.ensures.met (B.any_moment tells r here.holds);
         cause = start_ends r _ met result (IsKnown (IsTrue g.G.Ground.tells) (g.G.Ground.told c.args.ground.now) s) begun (says r is.0);

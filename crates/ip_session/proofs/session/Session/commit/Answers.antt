@@ -40,15 +40,16 @@ returns-clause-runs g c =
     runs_as _ _ _ _ _ _ _ _ (Command.Commit name info) _ (ap (λ (n : Bytes). Command.Commit n info) (sym c.as_slice.ensures)) (by_answer (reply_to made) made c.commit_answer.result (Runs (IsTrue g.G.Ground.tells) (IsTrue g.G.Ground.tells) unasked a b s after (Command.Commit name info)) c.commit_answer.ensures.answer
     (λ reply is. record {
       serving = let (r, of) = c.requires.tables in let on = commits.tables r of.0 of.1 (has_answer made reply is) in (on.repository, (on.tables, on.parents));
-      goes = λ told r v here. commit_goes a b s call.new.self call.new.work _ r v here name info made commits.same_collection (commits.took told r v here).changes reply c.met-self.ensures is (answered told r v here);
+      goes = λ told r v here. commit_goes a b s call.new.self call.new.work _ r v here name info made commits.same_collection (commits.took told r v here).changes (commits.took told r v here).slots reply c.met-self.ensures is (answered told r v here);
       placed = λ told r v here. commit_placed a b s call.new.self r v here name info call.new.work made reply is (answered told r v here) (commits.took told r v here).changes (commits.limits told r v here) (commits.appends told r v here);
+      bounded = λ known r v here look. absurd (cc look);
       clear = λ told r v here. keeps_by a b s after (Command.Commit name info) reply (λ may. may) (commits.clear told (has_answer made reply is) r here.holds) commits.unswept;
       cut = λ told r v here. tt;
       cause = tt;
       untouched = λ told met. absurd met;
     })
     (λ end is. runs_ended (IsTrue g.G.Ground.tells) (IsTrue g.G.Ground.tells) unasked a b s after (Command.Commit name info) end (fault_ends made end (IsKnown (IsTrue g.G.Ground.tells) a s) is (causes_apart g.G.Ground.tells a s.store.held.space made commits.causes) (λ (told, (r, v, here)). commits.undamaged told r v here)) (λ told met. let refused = damage_refused made (damage_of made end is met) in commits.untouched told refused.0 refused.1)
-    (λ told r v here. commit_cut a b s call.new.self call.new.work _ r v here name info made commits.same_collection (commits.took told r v here).changes (c.met-self.ensures ∙ call.ensures.met ∙ fault_met made end is))))
+    (λ told r v here. commit_cut a b s call.new.self call.new.work _ r v here name info made commits.same_collection (commits.took told r v here).changes (commits.took told r v here).slots (c.met-self.ensures ∙ call.ensures.met ∙ fault_met made end is))))
 
 pub returns-clause-counts : goal.returns-clause-counts
 returns-clause-counts g c = answer_counts (reply_to c.commit-made.result) c.commit-made.result c.commit_answer.result _ _ c.commit_answer.ensures.answer (has_answer c.commit-made.result) c.commit-made.ensures.counts

@@ -28,6 +28,7 @@ returns-in-Err-clause-runs g c =
       serving = c.requires.tables;
       goes = λ known r v here. unmerged_goes c.args.target c.args.branch c.args.info rule _ c.args.self.now c.args.self.now.met r v here c.in-Err.reply c.requires.met (sym (c.in-Err.ensures.number r here.holds.tables));
       placed = λ known r v here. unmerged_placed c.args.target c.args.branch c.args.info rule (image_records here.holds) _ _ (state_in c.args.self.now r v) v c.in-Err.reply (sym (c.in-Err.ensures.number r here.holds.tables));
+      bounded = λ known r v here look. absurd (cc look);
       clear = λ known r v here. keeps_by _ _ c.args.self.now _ (Command.Merge c.args.target c.args.branch c.args.info) c.in-Err.reply (λ may. may) (λ clear. clear) refl;
       cut = λ known r v here. tt;
       cause = tt;
@@ -71,6 +72,7 @@ returns-clause-runs g c =
           let tables = here.holds.tables in
           let retained = c.in-Ok.ensures.retained r tables in
           merge_placed rule a b s call.new.self merges.same_collection r v here target name info n (sym (c.in-Ok.ensures.number r tables)) made reply is (merges.merges known.0 known.1 r here.holds retained).appends (merges.merges known.0 known.1 r here.holds retained).limits;
+      bounded = λ known r v here look. absurd (cc look);
       clear = λ told r v here. keeps_by a b s after (Command.Merge target name info) reply (λ may. may) (merges.clear told (has_reply name made reply is) r here.holds) merges.unswept;
       cut = λ known r v here. tt;
       cause = tt;

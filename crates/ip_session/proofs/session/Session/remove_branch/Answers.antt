@@ -40,17 +40,18 @@ returns-clause-runs g c =
           let (r, of) = c.requires.tables in
           serves r (phase_of s.store.held.collection) (Command.BranchRm name) (met_by made) reply store s of.1 (subst (λ (o : Option Reply). IfSome o (AnswersRemove r (phase_of s.store.held.collection) name (met_by made) store.held)) is (removes.answered r of.0));
       goes = λ told r v here.
-          remove_goes a b s store _ r v here name made removes.same_collection (removes.took told r here.holds).changes
+          remove_goes a b s store _ r v here name made removes.same_collection (removes.took told r here.holds).changes (removes.took told r here.holds).slots
           (λ has q now kept parents. record { holds = now; lawful = works_stay _ _ r q _ v here.lawful (λ there. (removes.grew told r here.holds).stay has q now) (omega (arith, kept)) parents })
           reply c.met-self.ensures is (λ absent. ap g.G.Ground.told (call.ensures.absent absent)) (subst (λ (m : Met). IfSome (removed_reply name made) (AnswersRemove r (phase_of s.store.held.collection) name m store.held)) (sym call.ensures.met) (removes.answered r here.holds.tables));
       placed = λ told r v here. remove_placed a b s store r v here name made reply is (removes.took told r here.holds).changes removes.limits (λ absent. ap g.G.Ground.told (call.ensures.absent absent)) (removes.appends told);
+      bounded = λ known r v here look. absurd (cc look);
       clear = λ told r v here. keeps_by a b s after (Command.BranchRm name) reply (λ may. may) ((removes.took told r here.holds).clear (has_answer_removed name made reply is)) removes.unswept;
       cut = λ told r v here. tt;
       cause = tt;
       untouched = λ told met. absurd met;
     })
     (λ end is. runs_ended (IsTrue g.G.Ground.tells) (IsTrue g.G.Ground.tells) unasked a b s after (Command.BranchRm name) end (fault_ends made end (IsKnown (IsTrue g.G.Ground.tells) a s) is (sound_apart made removes.undamaged) (λ held. removes.undamaged)) (λ told met. absurd (damage_of made end is met removes.undamaged)) (λ told r v here.
-    remove_cut a b s store _ r v here name made removes.same_collection (removes.took told r here.holds).changes
+    remove_cut a b s store _ r v here name made removes.same_collection (removes.took told r here.holds).changes (removes.took told r here.holds).slots
     (λ has q now kept parents. record { holds = now; lawful = works_stay _ _ r q _ v here.lawful (λ there. (removes.grew told r here.holds).stay has q now) (omega (arith, kept)) parents })
     (c.met-self.ensures ∙ call.ensures.met ∙ fault_met made end is) (removes.begun r here.holds.tables (fault_ground made end is removes.undamaged)))))
 

@@ -31,6 +31,7 @@ returns-in-Err-clause-runs g c = record {
   serving = c.requires.tables;
   goes = λ told r v here. unnamed_goes _ c.args.self.now c.args.self.now.met r v here c.args.name c.args.target c.in-Err.reply c.requires.met (sym (c.in-Err.ensures.number r here.holds.tables));
   placed = λ told r v here. unnamed_placed (image_records here.holds) _ _ (state_in c.args.self.now r v) v c.args.name c.args.target c.in-Err.reply (sym (c.in-Err.ensures.number r here.holds.tables));
+  bounded = λ known r v here look. absurd (cc look);
   clear = λ told r v here. keeps_by _ _ c.args.self.now _ (Command.Branch c.args.name c.args.target) c.in-Err.reply (λ may. may) (λ clear. clear) refl;
   cut = λ told r v here. tt;
   cause = tt;
@@ -60,11 +61,12 @@ returns-clause-runs g c =
       goes = λ told r v here.
           let tables = here.holds.tables in
           let retained = c.in-Ok.ensures.retained r tables in
-          set_goes a b s store _ r v here name target n (sym (c.in-Ok.ensures.number r tables)) made sets.same_collection (sets.took told r here.holds retained).changes
+          set_goes a b s store _ r v here name target n (sym (c.in-Ok.ensures.number r tables)) made sets.same_collection (sets.took told r here.holds retained).changes (sets.took told r here.holds retained).slots
           (λ has q now kept parents. record { holds = now; lawful = works_stay _ _ r q _ v here.lawful (λ there. (sets.grew told r here.holds).stay has q now) (omega (arith, kept)) parents }) reply c.met-self.ensures is (subst (λ (m : Met). IfSome (branch_reply made) (AnswersSet r (phase_of s.store.held.collection) name n m store.held)) (sym call.ensures.met) (sets.answered r tables retained));
       placed = λ told r v here.
           let tables = here.holds.tables in
           set_placed a b s store r v here name target n (sym (c.in-Ok.ensures.number r tables)) made reply is (sets.took told r here.holds (c.in-Ok.ensures.retained r tables)).changes sets.limits (sets.appends told);
+      bounded = λ known r v here look. absurd (cc look);
       clear = λ told r v here. keeps_by a b s after (Command.Branch name target) reply (λ may. may) ((sets.took told r here.holds (c.in-Ok.ensures.retained r here.holds.tables)).clear (has_answer_set made reply is)) sets.unswept;
       cut = λ told r v here. tt;
       cause = tt;
@@ -74,7 +76,7 @@ returns-clause-runs g c =
     let tables = here.holds.tables in
     let retained = c.in-Ok.ensures.retained r tables in
     let begun = sets.begun r tables (fault_ground made end is sets.undamaged) in
-    set_cut a b s store _ r v here name target n (sym (c.in-Ok.ensures.number r tables)) made sets.same_collection (sets.took told r here.holds retained).changes
+    set_cut a b s store _ r v here name target n (sym (c.in-Ok.ensures.number r tables)) made sets.same_collection (sets.took told r here.holds retained).changes (sets.took told r here.holds retained).slots
     (λ has q now kept parents. record { holds = now; lawful = works_stay _ _ r q _ v here.lawful (λ there. (sets.grew told r here.holds).stay has q now) (omega (arith, kept)) parents }) (c.met-self.ensures ∙ call.ensures.met ∙ fault_met made end is) begun.0 begun.1)))
 
 pub returns-clause-counts : goal.returns-clause-counts

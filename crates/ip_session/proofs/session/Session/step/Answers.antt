@@ -10,9 +10,10 @@ use Rattle.ip_spec.specs.declared.met.Met.{Met}
 use Rattle.ip_spec.specs.Step.{IsSwept}
 use Rattle.ip_session.proofs.Asking.{lined_asked, lined_counts, nothing_spawned, none_counts, none_met}
 use Rattle.ip_session.proofs.SessionLemmas.{line_refused, has_words}
-use Rattle.ip_session.proofs.SessionGoes.{lined_ok, lined_cut, bad_goes, refused_goes}
+use Rattle.ip_session.proofs.SessionGoes.{lined_ok, lined_cut, lined_bounded, bad_goes, refused_goes}
 use Rattle.ip_session.proofs.ClearGoes.{lined_clear, quiet_clear}
 use Rattle.ip_session.proofs.Placing.{lined_placed, quiet_placed}
+use Rattle.ip_session.specs.Asking.{IsBoundedIn}
 use Rattle.ip_session.specs.Placing.{PlacedIn}
 use Rattle.ip_merge.specs.Rules.{IsDecisive}
 use Rattle.ip_session.specs.Running.{IsKnown}
@@ -51,6 +52,16 @@ returns-in-Err-Bad-clause-placed g c told decisive r v here = quiet_placed _ _ _
 pub returns-in-Err-Memory-clause-placed : goal.returns-in-Err-Memory-clause-placed
 returns-in-Err-Memory-clause-placed g c told decisive r v here =
     subst (PlacedIn (g.D.Decides.rule c.args.rules.now) (image_records here.holds) c.args.self.now.store.held.slot c.args.self.now.store.held.unswept c.args.self.now.store.held.slot (state_in c.args.self.now r v) v c.args.line.now) (sym c.refuse.ensures.reply) (quiet_placed _ _ _ _ _ _ v c.args.line.now Reply.Memory (λ command h. h) (λ command h. h) (λ l is. absurd (cc is)) tt refl)
+
+pub returns-in-Ok-clause-bounded : goal.returns-in-Ok-clause-bounded
+returns-in-Ok-clause-bounded g c told decisive r v here look = lined_bounded here.holds.stands.standing.records c.args.self.now.store.held.collection c.in-Ok.command c.args.line.now c.run.result
+    (λ other spelled. one_command c.args.line.now other c.in-Ok.command spelled c.in-Ok.ensures.reads) (c.run.ensures.runs.bounded (told, decisive) r v here) look
+
+pub returns-in-Err-Bad-clause-bounded : goal.returns-in-Err-Bad-clause-bounded
+returns-in-Err-Bad-clause-bounded g c told decisive r v here look = tt
+
+pub returns-in-Err-Memory-clause-bounded : goal.returns-in-Err-Memory-clause-bounded
+returns-in-Err-Memory-clause-bounded g c told decisive r v here look = subst (IsBoundedIn here.holds.stands.standing.records c.args.self.now.store.held.collection) (sym c.refuse.ensures.reply) tt
 
 pub returns-in-Ok-clause-clear : goal.returns-in-Ok-clause-clear
 returns-in-Ok-clause-clear g c told r v here = lined_clear _ _ c.args.self.now c.run.new.self c.met_only-self.result c.in-Ok.command c.args.line.now c.run.result c.in-Ok.ensures.reads
