@@ -1,7 +1,7 @@
 -- What was cleared away is so still, while no file changes.
---     clear_along      of two moments with the same files and custody.      clear_behind      all is gone, by whoever's the files are
+--     clear_along      of two moments with the same files and custody.      clear_behind      all is gone, by whoever's the files are.      left_behind      and so it is of what is left
 --     clear_synced      opening keeps it.      cleared_opened      and so it is of the store that was opened.      cleared_at, cleared_same      an open store's is that of the slot that is live
-use Rattle.std.proofs.Common.{◌≡◌, ℕ, ◌<◌, ◌≤◌, sym, ap, subst, ◌∙◌, arith}
+use Rattle.std.proofs.Common.{◌≡◌, ℕ, ◌<◌, ◌≤◌, refl, sym, ap, subst, ◌∙◌, arith}
 use Rattle.std.proofs.Math.Nat.{le_refl}
 use Rattle.ip_ground.specs.declared.names.FileName.{FileName}
 use Rattle.ip_ground.specs.declared.names.FileName.TheVariants.{Control, Chunk, Prefix, Mapping, Done}
@@ -16,6 +16,7 @@ use Rattle.ip_image.proofs.HeadlineLaws.{one_slot}
 use Rattle.ip_held.specs.declared.collection.Unswept.{Unswept}
 use Rattle.ip_held.specs.declared.held.Held.{Held}
 use Rattle.ip_held.specs.Clear.{unswept_in, IsClearTo, IsCleared, IsClearAt, IsClear}
+use Rattle.ip_app.specs.Judged.{AllLeft}
 use Rattle.ip_app.proofs.LivePair.{live_before}
 
 -- a file of an attempt is no child's where the attempt is not
@@ -41,6 +42,18 @@ clear_behind s image whose other same was = record {
   chunks = was.chunks;
   files = λ attempt file some low of ours left. was.files attempt file some low of (subst (λ (c : Custody). ¬ custody.IsForeign c) (same attempt) ours) left;
 }
+
+custody_same : (whose other : ℕ → Custody) → ((attempt : ℕ) → other attempt ≡ whose attempt) → (file : FileName) → custody_of other file ≡ custody_of whose file
+custody_same whose other same Control = refl
+custody_same whose other same (Chunk number) = refl
+custody_same whose other same (Prefix n) = same n
+custody_same whose other same (Mapping n) = same n
+custody_same whose other same (Done n) = same n
+
+pub left_behind : (these : FileName → Type 0) (left : ℕ) (image : Image) (whose other : ℕ → Custody) → ((attempt : ℕ) → other attempt ≡ whose attempt) → AllLeft these left image whose → AllLeft these left image other
+left_behind these left image whose other same was few =
+    let found = was few in
+    (found.0, found.1, λ file is ours. found.2 file is (subst (λ (c : Custody). ¬ custody.IsForeign c) (custody_same whose other same file) ours))
 
 -- ---- opening
 

@@ -5,14 +5,16 @@
 --     later_in      what the spawner counted meanwhile.      later_gone      and while a child was let go
 --     happen_more, spawned_more      of one exchange more.      phase_all      the phase behind several
 use Rattle.std.proofs.Common.{◌≡◌, ◌≢◌, inl, inr, ℕ, ◌+◌, ◌-◌, ◌^◌, ◌≤◌, Bool, true, false, List, [], ◌∷◌, ◌++◌, refl, sym, ap, ap₂, ◌∙◌, subst, arith, Option, None, Some, Ok, Err}
-use Rattle.std.specs.Prelude.{◌⊎◌, if◌then◌else◌, IsSomeAnd}
+use Rattle.std.specs.Prelude.{◌⊎◌, if◌then◌else◌, IsSomeAnd, IsTrue}
 use Rattle.std.proofs.lemmas.Bool.{cases_lt}
 use Rattle.std.proofs.lemmas.List.{flat_map_more}
-use Rattle.ip_ground.specs.Counts.{Noted, Rose, RoseBy}
+use Rattle.ip_ground.specs.Counts.{Noted, Rose, RoseBy, Counted, as_nothing, as_fault, as_damage, CountsIf}
 use Rattle.ip_base.specs.declared.exit.Reaped.{Reaped}
 use Rattle.ip_spawn.specs.Children as spawn
+use Rattle.ip_spawn.specs.Counts.{counted}
 use Rattle.ip_spawn.specs.declared.job.Job.{Job}
 use Rattle.ip_spawn.specs.declared.spawner.SpawnCounts.{SpawnCounts}
+use Rattle.ip_spawn.proofs.Rising.{rose_counted}
 use Rattle.ip_spec.specs.declared.command.Command.{Command}
 use Rattle.ip_spec.specs.declared.met.Child.{Child}
 use Rattle.ip_spec.specs.declared.met.Met.{Met}
@@ -33,11 +35,11 @@ use Rattle.ip_collects.specs.Starting.{IsJobAt}
 use Rattle.ip_session.specs.declared.session.Session.{Session}
 use Rattle.ip_session.specs.declared.session.SessionEnd.{SessionEnd}
 use Rattle.ip_session.specs.Asking.{HasStarted, MayReap, HeardOf, Asked, AskedIn, LetsGo, starts_in}
-use Rattle.ip_session.specs.Session.{IsServing, conditions_with, CountsBy, CountsIn}
+use Rattle.ip_session.specs.Session.{IsServing, conditions_with, counted_end, CountsBy, CountsIn}
 use Rattle.std.specs.Prelude.{Result}
 use Rattle.ip_app.specs.Exchanges.{Exchange, after_all}
-use Rattle.ip_app.specs.Happening.{HappensBy, Happens, HappensCut, AllHappen, phase_after, started_in, ends_in}
-use Rattle.ip_app.specs.Turns.{turn_counts, SpawnsLater}
+use Rattle.ip_app.specs.Happening.{AsksBy, HappensBy, Happens, HappensCut, AllHappen, phase_after, started_in, ends_in}
+use Rattle.ip_app.specs.Turns.{turn_counts, AreCounts, SpawnsLater}
 use Rattle.ip_app.proofs.Counting.{risen}
 
 -- a line's exchange
@@ -51,7 +53,7 @@ job_of store slot jobs (Some c) h = (c.job, h.0)
 
 -- by the collection that ran, how the child ended that was heard of
 heard_of : (collection : Option Collection) (reaped : Reaped) (ends : List Reaped) (p q : SpawnCounts) → IsSomeAnd collection (λ c. HeardOf c reaped ends p q)
-    → ((exit_kept (phase_of collection) ≡ None) × (ends ≡ reaped ∷ []) × Rose p.reaps q.reaps) ⊎ ((exit_kept (phase_of collection) ≡ Some reaped) × (ends ≡ []) × (q ≡ p))
+    → ((exit_kept (phase_of collection) ≡ None) × (ends ≡ reaped ∷ []) × (q.reaps ≡ counted true p.reaps)) ⊎ ((exit_kept (phase_of collection) ≡ Some reaped) × (ends ≡ []) × (q ≡ p))
 heard_of None reaped ends p q h = absurd h
 heard_of (Some c) reaped ends p q h = h.1
 
@@ -71,20 +73,28 @@ module _ (s s' : Session) (reply : Reply) (difference : Option Difference) (jobs
   abbrev plain : Bytes → Exchange
   plain line = exchange_of line s'.met (turn_counts a p) (turn_counts b q) difference jobs ends reply after
 
-  by_command : (line : Bytes) (command : Command) → Asked s s' command (Ok reply) jobs ends p q → CountsBy (Ok reply) command s'.met a b → HappensBy command (phase_of s.store.held.collection) (plain line)
-  by_command line command asked counts = record {
-    started = λ has. job_of s.store.held s'.store.held.slot jobs s'.store.held.collection (asked.started has);
-    none_started = asked.none_started;
-    start = asked.start;
+  asks_by : (line : Bytes) (command : Command) (result : Result Reply SessionEnd) → Asked s s' command result jobs ends p q → AsksBy command (phase_of s.store.held.collection) (plain line)
+  asks_by line command result asked = record {
     running = asked.running;
     not_running = asked.not_running;
+    waits = asked.waits;
     no_wait = asked.no_wait;
     waited = asked.waited;
+    reaps = asked.reaps;
     none_reaped = asked.none_reaped;
     heard = λ reaped is. heard_of s.store.held.collection reaped ends p q (asked.heard reaped is);
     unheard = asked.unheard;
-    cancelled = λ is. asked.cancelled (ap (λ (r : Reply). Ok r) is);
+    start = asked.start;
     kill = asked.kill;
+    no_fault = asked.no_fault;
+  }
+
+  by_command : (line : Bytes) (command : Command) → Asked s s' command (Ok reply) jobs ends p q → CountsBy (Ok reply) command s'.met a b → HappensBy command (phase_of s.store.held.collection) (plain line)
+  by_command line command asked counts = record {
+    asks = asks_by line command (Ok reply) asked;
+    started = λ has. job_of s.store.held s'.store.held.slot jobs s'.store.held.collection (asked.started has);
+    none_started = asked.none_started;
+    cancelled = λ is. asked.cancelled (ap (λ (r : Reply). Ok r) is);
     left = λ may. left_of command reply s'.met a b may counts;
     none_left = λ none. none_left_of command reply s'.met a b none counts;
   }
@@ -111,26 +121,29 @@ pub none_started_of : (s s' : Session) (line : Bytes) (result : Result Reply Ses
 none_started_of s s' line result [] ends before after asked unstarted = refl
 none_started_of s s' line result (job ∷ jobs) ends before after asked unstarted = (asked.none (λ command served. (let none = (asked.command command served).none_started unstarted in absurd (cc none)))).0
 
+-- no removal failed
+removals_still : (c : Counted) (a b : Noted) → CountsIf c a b → b.remove_faults ≡ a.remove_faults
+removals_still as_nothing a b same = ap (λ (n : Noted). n.remove_faults) same
+removals_still as_fault a b fault = fault.remove_faults
+removals_still as_damage a b found = found.remove_faults
+
 module _ (s s' : Session) (end : SessionEnd) (difference : Option Difference) (jobs : List Job) (ends : List Reaped) (reply : Reply) (after : State) (a b : Noted) (p q : SpawnCounts) where
-  cut_plainly : (line : Bytes) → AskedIn s s' line (Err end) jobs ends p q → HappensCut (phase_of s.store.held.collection) (exchange_of line s'.met (turn_counts a p) (turn_counts b q) difference jobs ends reply after)
-  cut_plainly line asked = record {
+  cut_plainly : (line : Bytes) → AskedIn s s' line (Err end) jobs ends p q → CountsIf (counted_end end) a b → HappensCut (phase_of s.store.held.collection) (exchange_of line s'.met (turn_counts a p) (turn_counts b q) difference jobs ends reply after)
+  cut_plainly line asked counted = record {
     none_started = none_started_of s s' line (Err end) jobs ends p q asked (λ has. has);
-    command = λ command served. let by = asked.command command served in record {
-      running = by.running;
-      not_running = by.not_running;
-      no_wait = by.no_wait;
-      none_reaped = by.none_reaped;
-      heard = λ reaped is. heard_of s.store.held.collection reaped ends p q (by.heard reaped is);
-      unheard = by.unheard;
+    command = λ command served. let by = asked.command command served in let none = by.cut refl in record {
+      asks = asks_by s s' reply difference jobs ends after a b p q line command (Err end) by;
+      none_failed = (none.0, none.1);
+      none_left = (none.2, removals_still (counted_end end) a b counted);
     };
   }
 
-  pub cut_of : (line : Bytes) (met : Met) (before later : TurnCounts) → met ≡ s'.met → before ≡ turn_counts a p → later ≡ turn_counts b q → AskedIn s s' line (Err end) jobs ends p q → HappensCut (phase_of s.store.held.collection) (exchange_of line met before later difference jobs ends reply after)
-  cut_of line met before later same_met from to asked =
+  pub cut_of : (line : Bytes) (met : Met) (before later : TurnCounts) → met ≡ s'.met → before ≡ turn_counts a p → later ≡ turn_counts b q → AskedIn s s' line (Err end) jobs ends p q → CountsIf (counted_end end) a b → HappensCut (phase_of s.store.held.collection) (exchange_of line met before later difference jobs ends reply after)
+  cut_of line met before later same_met from to asked counted =
       let phase = phase_of s.store.held.collection in
       subst (λ (m : Met). HappensCut phase (exchange_of line m before later difference jobs ends reply after)) (sym same_met)
       (subst (λ (c : TurnCounts). HappensCut phase (exchange_of line s'.met c later difference jobs ends reply after)) (sym from)
-      (subst (λ (c : TurnCounts). HappensCut phase (exchange_of line s'.met (turn_counts a p) c difference jobs ends reply after)) (sym to) (cut_plainly line asked)))
+      (subst (λ (c : TurnCounts). HappensCut phase (exchange_of line s'.met (turn_counts a p) c difference jobs ends reply after)) (sym to) (cut_plainly line asked counted)))
 
 -- ---- the child that was started
 
@@ -169,12 +182,29 @@ hears_of rule s s' state after line difference reply jobs ends p q serving asked
 
 -- ---- what was counted
 
--- where it was not at its last value yet
-running_later : (child : Child) (before after : ℕ) → before ≤ 2 ^ 64 - 1 → (child ≡ Child.Running → Rose before after) → (child ≢ Child.Running → after ≡ before) → before ≤ after
-running_later Child.Running before after small rose same = risen before after small (rose refl)
-running_later Child.NotAsked before after small rose same = let e = same (λ is. absurd (cc is)) in omega (arith, e)
-running_later Child.Fault before after small rose same = let e = same (λ is. absurd (cc is)) in omega (arith, e)
-running_later (Child.Ended reaped) before after small rose same = let e = same (λ is. absurd (cc is)) in omega (arith, e)
+-- once more or not, where it was within its range
+count_later : (before after : ℕ) → before ≤ 2 ^ 64 - 1 → (after ≡ before) ⊎ (after ≡ counted true before) → before ≤ after
+count_later before after small (inl same) = omega (arith, same)
+count_later before after small (inr more) = risen before after small (subst (Rose before) (sym more) (rose_counted before))
+
+running_more : (child : Child) (before after : ℕ) → (child ≡ Child.Running → after ≡ counted true before) → (child ≢ Child.Running → after ≡ before) → (after ≡ before) ⊎ (after ≡ counted true before)
+running_more Child.Running before after more same = inr (more refl)
+running_more Child.NotAsked before after more same = inl (same (λ is. absurd (cc is)))
+running_more Child.Fault before after more same = inl (same (λ is. absurd (cc is)))
+running_more (Child.Ended reaped) before after more same = inl (same (λ is. absurd (cc is)))
+
+-- a call that failed is the one that was met
+faults_more : (met : Met) (before after : ℕ) → (met.child ≡ Child.Fault → after ≡ counted true before) → (IsTrue met.start_failed → after ≡ counted true before) → (IsTrue met.kill_failed → after ≡ counted true before)
+    → (met.child ≢ Child.Fault → met.start_failed ≡ false → met.kill_failed ≡ false → after ≡ before) → (after ≡ before) ⊎ (after ≡ counted true before)
+faults_more met before after unheard start kill same = by met.child refl met.start_failed refl met.kill_failed refl
+  where
+    by : (child : Child) → met.child ≡ child → (started : Bool) → met.start_failed ≡ started → (killed : Bool) → met.kill_failed ≡ killed → (after ≡ before) ⊎ (after ≡ counted true before)
+    by Child.Fault is started start_is killed kill_is = inr (unheard is)
+    by child is true start_is killed kill_is = inr (start start_is)
+    by child is started start_is true kill_is = inr (kill kill_is)
+    by Child.Running is false start_is false kill_is = inl (same (λ fault. absurd (cc (is, fault))) start_is kill_is)
+    by Child.NotAsked is false start_is false kill_is = inl (same (λ fault. absurd (cc (is, fault))) start_is kill_is)
+    by (Child.Ended reaped) is false start_is false kill_is = inl (same (λ fault. absurd (cc (is, fault))) start_is kill_is)
 
 -- Whether a line is a command need not be known: a count that fell would be one of no command.
 module _ (s s' : Session) (line : Bytes) (result : Result Reply SessionEnd) (jobs : List Job) (ends : List Reaped) (before after : SpawnCounts) (asked : AskedIn s s' line result jobs ends before after) where
@@ -187,20 +217,20 @@ module _ (s s' : Session) (line : Bytes) (result : Result Reply SessionEnd) (job
     | inr up ↦ up
   ]
 
-  pub later_in : before.running ≤ 2 ^ 64 - 1 → SpawnsLater before after
+  pub later_in : AreCounts before → SpawnsLater before after
   later_in small = record {
-    running = at_least (λ c. c.running) (λ command asked. running_later s'.met.child before.running after.running small asked.running asked.not_running);
-    waits = at_least (λ c. c.waits) (λ command asked. asked.waits);
-    reaps = at_least (λ c. c.reaps) (λ command asked. asked.reaps);
-    spawn_faults = at_least (λ c. c.spawn_faults) (λ command asked. asked.spawn_faults);
+    running = at_least (λ c. c.running) (λ command asked. count_later before.running after.running small.running (running_more s'.met.child before.running after.running asked.running asked.not_running));
+    waits = at_least (λ c. c.waits) (λ command asked. count_later before.waits after.waits small.waits asked.waits);
+    reaps = at_least (λ c. c.reaps) (λ command asked. count_later before.reaps after.reaps small.reaps asked.reaps);
+    spawn_faults = at_least (λ c. c.spawn_faults) (λ command asked. count_later before.spawn_faults after.spawn_faults small.spawn_faults (faults_more s'.met before.spawn_faults after.spawn_faults asked.unheard asked.start asked.kill asked.no_fault));
   }
 
-pub later_gone : (before after : SpawnCounts) → LetsGo before after → SpawnsLater before after
-later_gone before after gone = record {
+pub later_gone : (before after : SpawnCounts) → AreCounts before → LetsGo before after → SpawnsLater before after
+later_gone before after small gone = record {
   running = (let same = gone.running in omega (arith, same));
   waits = (let same = gone.waits in omega (arith, same));
-  reaps = gone.reaps;
-  spawn_faults = gone.spawn_faults;
+  reaps = count_later before.reaps after.reaps small.reaps gone.reaps;
+  spawn_faults = count_later before.spawn_faults after.spawn_faults small.spawn_faults gone.spawn_faults;
 }
 
 -- ---- one exchange more

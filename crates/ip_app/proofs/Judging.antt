@@ -8,17 +8,18 @@
 --     watches_along      where a reply is said behind an exchange
 --     heard_by      which collection's child was heard of.      watches_of      what an exchange met of it, by what the session says
 use Rattle.std.proofs.Common.{◌≡◌, ◌≢◌, inl, inr, ℕ, ◌≤◌, ◌++◌, length, Bool, true, false, List, [], ◌∷◌, refl, sym, ap, ap₂, ◌∙◌, subst, arith, append_assoc, append-nil, Option, Some, None, Ok}
-use Rattle.std.specs.Prelude.{IfSome, IsSomeAnd}
+use Rattle.std.specs.Prelude.{◌+◌, count_by, IfSome, IsSomeAnd}
 use Rattle.std.proofs.lemmas.Bool.{cases_lt}
 use Rattle.ip_ground.specs.declared.names.FileName.{FileName}
 use Rattle.ip_base.specs.declared.exit.Reaped.{Reaped}
 use Rattle.ip_ground.specs.declared.names.FileName.TheVariants.{Control, Mapping, Prefix}
 use Rattle.ip_ground.specs.Contents.{Content, Image}
 use Rattle.ip_ground.specs.Custody.{lent}
-use Rattle.ip_ground.specs.Told.{Told, said, lending, KeepsPast, KeepsFile, KeepsCustody, KeepsSaid, SyncsOnly, Only, IsPossible, IsPossibleNow}
+use Rattle.ip_ground.specs.Told.{Told, said, lending, KeepsPast, KeepsFile, KeepsCustody, KeepsSaid, SyncsOnly, Only, IsPossible, IsPossibleNow, IsSynced}
 use Rattle.ip_ground.proofs.Spans.{said_now}
 use Rattle.ip_spawn.specs.declared.job.Job.{Job}
 use Rattle.ip_spawn.specs.declared.spawner.SpawnCounts.{SpawnCounts}
+use Rattle.ip_spec.specs.declared.command.Command.{Command}
 use Rattle.ip_spec.specs.declared.met.Child.TheVariants as Child
 use Rattle.ip_spec.specs.declared.met.Met.{Met}
 use Rattle.ip_spec.specs.declared.reply.Difference.{Difference}
@@ -48,17 +49,21 @@ use Rattle.ip_collects.specs.Starting.{IsJobAt}
 use Rattle.ip_held.specs.Clear.{IsClear, IsClearAt, IsClearTo, unswept_in}
 use Rattle.ip_held.specs.Collecting.{phase_of, until, Collects, IsJobOf, IsOfChild, IsPhaseOf}
 use Rattle.ip_held.specs.Held.{IsOf, Holds, image_records}
+use Rattle.ip_held.specs.Slots.{KeepsSlots}
+use Rattle.ip_held.specs.Sweeping as sweeping
 use Rattle.ip_held.proofs.Recovering.{held_has}
+use Rattle.ip_held.proofs.SlotLaws.{slots_on}
+use Rattle.ip_keep.specs.Keeping.{starts_between}
 use Rattle.ip_session.specs.declared.session.Session.{Session}
-use Rattle.ip_session.specs.Asking.{GoesOnBy, HasStarted, HeardOf, IsSlicedIn, AskedIn}
+use Rattle.ip_session.specs.Asking.{GoesOnBy, HasStarted, HeardOf, IsBoundedIn, IsSlicedIn, AskedIn, looks}
 use Rattle.ip_session.specs.Clearing.{ClearIn, unswept_behind}
 use Rattle.ip_session.specs.Placing.{PlacedIn}
 use Rattle.ip_session.specs.Session.{conditions_with, state_in, IsWorking, IsViewIn, IsJudgedIn, IsSettledIn, KeepsSpaceIn}
 use Rattle.ip_session.proofs.Changing.{still_space}
 use Rattle.ip_app.specs.Exchanges.{Exchange, after_all, texts_in}
-use Rattle.ip_app.specs.Judged.{IsWatchedTo, WatchedIn, texts_by, says_nothing, Started, last_started, IsSettledAt, IsConcluded, IsJudgedAs, IsServedAs, IsSameFor, ReadsSame, IsHeldIn, Point, begun_at, behind_it, point_of, looked_in, IsCheckedTo, IsAimed, Settles, StaysFrom, HearsNone, Watches, Watched, AllWatched}
+use Rattle.ip_app.specs.Judged.{IsWatchedTo, WatchedIn, texts_by, says_nothing, Started, last_started, IsSettledAt, IsConcluded, IsJudgedAs, IsServedAs, IsSameFor, ReadsSame, IsHeldIn, Point, begun_at, behind_it, point_of, looked_in, IsCheckedTo, IsAimed, Settles, StaysFrom, HearsNone, AllLeft, Watches, Watched, AllWatched}
 use Rattle.ip_app.specs.Places.{StartsAt, HearsAt}
-use Rattle.ip_app.proofs.Cleared.{clear_behind}
+use Rattle.ip_app.proofs.Cleared.{clear_behind, left_behind}
 use Rattle.ip_app.proofs.Happened.{exchange_of}
 use Rattle.ip_app.proofs.Looked.{checked_to, looked_on}
 use Rattle.ip_app.proofs.Settling.{settles_none, settles_on, settles_still, stays_behind, stays_first, stays_later}
@@ -156,6 +161,9 @@ module _ (a b : Told) (goes : KeepsPast a b) where
         lent = λ held. some_more p.last _ _ (λ child is. goes.lending began child.job.attempt early ∙ is) (was.lent held);
         lent_behind = λ held. some_more q.last _ _ (λ child is. goes.lending answered child.job.attempt was.by_now ∙ is) (was.lent_behind held);
         swept = λ has. some_more p.last _ _ (λ child is. (is.0, settled_later answered child.job.attempt is.0 was.by_now is.1)) (was.swept has);
+        all_but = λ has. left_behind (sweeping.IsSwept q.slot p.unswept) x.turn.met.left behind (a.lending_at answered) (b.lending_at answered) (λ attempt. goes.lending answered attempt was.by_now) (was.all_but has);
+        bounded = was.bounded;
+        slots = λ order t late le crashed possible. (let now = was.by_now in was.slots order t late le crashed (possible_before t crashed (omega (arith, le, now)) possible));
         stays = λ order t low high. stays_later a b goes (settles order) t answered high was.by_now (was.stays order t low high);
         clear = λ clear swept none slot has. clear_behind slot behind (a.lending_at answered) (b.lending_at answered) (λ attempt. goes.lending answered attempt was.by_now) (was.clear clear swept none slot has);
         reads = λ order held. some_more p.last _ _ (λ child is. (reads_later child began early is.0, λ none. reads_later child answered was.by_now (is.1 none))) (was.reads order held);
@@ -221,6 +229,11 @@ lent_in told store r holds s phase held = by store.collection holds.collects (he
 -- of a run so far: what was settled is so still
 abbrev StaysSo : Told → Told → Type 0
 StaysSo old told = NothingPending old → (t : ℕ) → old.moment ≤ t → t ≤ told.moment → StaysFrom told t told.moment
+
+-- a look that collects, by how many records were looked at before
+bounded_by : (records : Records) (before : Option Collection) (reply : Reply) (floor left : ℕ) → reply ≡ Reply.Collected floor left → IsBoundedIn records before reply → IsSomeAnd before (λ c. count_by (starts_between c.job.horizon c.job.end) records ≤ looked_in before + looks)
+bounded_by records None reply floor left is bounded = subst (IsBoundedIn records None) is bounded
+bounded_by records (Some c) reply floor left is bounded = subst (IsBoundedIn records (Some c)) is bounded
 
 -- ---- one exchange
 
@@ -326,6 +339,9 @@ module _ (rule : Rule) (a b : Told) (goes : KeepsPast a b) (s : State) (v view :
     lent = λ held. by_going (λ job. b.lending_at a.moment job.attempt ≡ lent) (some_more before _ _ (λ c is. goes.lending a.moment c.job.attempt (omega arith) ∙ is) (w.lent held));
     lent_behind = λ held. of_going now (last_started w.answered w.behind x.started last) (going_more w.answered w.behind x.started last before now going goes_on) (λ job. b.lending_at w.answered job.attempt ≡ lent) (w.lent_behind held);
     swept = λ has. by_going (λ job. (pair : Image) × IsSettledAt b w.answered job.attempt pair) (w.swept has);
+    all_but = w.all_but;
+    bounded = λ looks_at floor left is. by_going (λ job. count_by (starts_between job.horizon job.end) w.stands.standing.records ≤ looked_in before + looks) (bounded_by w.stands.standing.records before x.reply floor left is (w.bounded looks_at));
+    slots = λ order t late le crashed possible. (let now = w.by_now in w.slots (calm order) slot w.has t late (omega (arith, le, now)) crashed possible);
     stays = λ order t low high. w.stays (calm order) t (λ soon. stays order t low soon) high;
     clear = λ clear swept none u has. subst (λ (t : Slot). IsClear t w.behind (b.lending_at w.answered)) (one_slot slot' u w.behind w.has_behind has) (w.clear (cleared clear) swept none);
     reads = λ order held. some_both last (λ child. IsJobOf slot child.job) (λ child. ReadsNow a child) (λ child. Unit {0}) _
@@ -443,12 +459,13 @@ watched_unbegun rule says is_unsaid is_cut_short old new slot first calm quiet l
   said_then = λ _. quiet ∙ sym (append-nil (said old));
   lent = λ held. absurd (cc (held.1, calm));
   reads = λ order held. absurd (cc (held.1, calm));
+  slots = λ order some t late le. absurd (some refl);
 }
 
 -- the last command was cut short
 pub watched_cut : (rule : Rule) (says : Reply → Bytes) (is_unsaid is_cut_short : Bool) → is_cut_short ≡ true → (old mid new : Told) → KeepsPast mid new → (start : Slot) (first : State) (xs : List Exchange) (x : Exchange) (store : Held) (r : Repository) (v : View) → IsWatchedTo rule says old mid start first xs store.collection store.slot store.unswept v → said mid ≡ said old ++ texts_by says xs → Holds store mid r
-    → (after_all first xs).phase ≡ phase_of store.collection → (NothingPending old → Settles mid new) → (NothingPending old → ((reaped : Reaped) → x.turn.met.child ≢ Child.Ended reaped) → (slot : Slot) → HasLive slot mid.held → KeepsSpace slot mid new) → WatchedIn rule says is_unsaid is_cut_short old new start first (xs ++ x ∷ [])
-watched_cut rule says is_unsaid is_cut_short cut old mid new goes start first xs x store r v w all holds phase settles space = record {
+    → (after_all first xs).phase ≡ phase_of store.collection → (NothingPending old → Settles mid new) → (NothingPending old → KeepsSlots mid new) → (NothingPending old → ((reaped : Reaped) → x.turn.met.child ≢ Child.Ended reaped) → (slot : Slot) → HasLive slot mid.held → KeepsSpace slot mid new) → WatchedIn rule says is_unsaid is_cut_short old new start first (xs ++ x ∷ [])
+watched_cut rule says is_unsaid is_cut_short cut old mid new goes start first xs x store r v w all holds phase settles slots space = record {
   whole = xs;
   cut = x ∷ [];
   all = refl;
@@ -462,6 +479,7 @@ watched_cut rule says is_unsaid is_cut_short cut old mid new goes start first xs
   said_then = λ _. goes.said mid.moment (omega arith) ∙ all;
   lent = λ held. of_going store.collection w.last w.going (λ job. new.lending_at mid.moment job.attempt ≡ lent) (some_more store.collection _ _ (λ c is. goes.lending mid.moment c.job.attempt (omega arith) ∙ is) (lent_in mid store r holds (after_all first xs) phase held));
   reads = λ order held. ended_cut mid new goes (after_all first xs) store r holds phase w.last w.going held (w.reads order held) (HearsNone (x ∷ [])) (λ none slot live. space order (none x refl) slot live);
+  slots = λ order some. slots order store.slot (held_has store r mid holds);
 }
 
 -- all were answered, and then this was said
@@ -481,11 +499,12 @@ watched_all rule says is_unsaid is_cut_short old now start first xs collection s
   said_then = all;
   lent = λ held. of_going collection w.last w.going (λ job. now.lending_at ended job.attempt ≡ lent) (held_then held);
   reads = λ order held. some_more w.last _ _ (λ child was. ((λ t after early image possible. was.0 t after (omega (arith, early, le)) image possible), λ none. was.0)) (w.reads order held);
+  slots = λ order some t late le. absurd (some refl);
 }
 
 -- where a reply, or more, is said behind it
-pub watches_along : (rule : Rule) (a mid b : Told) → KeepsPast a mid → KeepsPast mid b → ((attempt : ℕ) → KeepsCustody mid b attempt) → (s : State) (v view : View) (before now : Option Collection) (slot slot' : Slot) (unswept unswept' : Unswept) (x : Exchange) → (NothingPending a → NothingPending mid) → ((file : FileName) → KeepsFile mid b file) → HasLive slot' mid.held → Watches rule a mid s v view before now slot slot' unswept unswept' x → Watches rule a b s v view before now slot slot' unswept unswept' x
-watches_along rule a mid b past goes lends s v view before now slot slot' unswept unswept' x calm stays there w = record {
+pub watches_along : (rule : Rule) (a mid b : Told) → KeepsPast a mid → KeepsPast mid b → ((attempt : ℕ) → KeepsCustody mid b attempt) → (s : State) (v view : View) (before now : Option Collection) (slot slot' : Slot) (unswept unswept' : Unswept) (x : Exchange) → (NothingPending a → NothingPending mid) → ((file : FileName) → KeepsFile mid b file) → HasLive slot' mid.held → IsSynced a Control → IsPossibleNow mid → Watches rule a mid s v view before now slot slot' unswept unswept' x → Watches rule a b s v view before now slot slot' unswept unswept' x
+watches_along rule a mid b past goes lends s v view before now slot slot' unswept unswept' x calm stays there kept possible_mid w = record {
   phase = w.phase;
   phase_behind = w.phase_behind;
   answered = w.answered;
@@ -512,6 +531,9 @@ watches_along rule a mid b past goes lends s v view before now slot slot' unswep
   lent = w.lent;
   lent_behind = λ held. some_more now _ _ (λ c is. goes.lending w.answered c.job.attempt w.by_now ∙ is) (w.lent_behind held);
   swept = λ has. some_more before _ _ (λ c is. (is.0, settled_later mid b goes w.answered c.job.attempt is.0 w.by_now is.1)) (w.swept has);
+  all_but = λ has. left_behind (sweeping.IsSwept slot' unswept) x.turn.met.left w.behind (mid.lending_at w.answered) (b.lending_at w.answered) (λ attempt. goes.lending w.answered attempt w.by_now) (w.all_but has);
+  bounded = w.bounded;
+  slots = λ order. slots_on a mid b kept possible_mid past goes (stays Control) (w.slots order);
   settles = λ order. settles_on a mid b past goes (w.settles order) (settles_none mid b lends);
   stays = λ order t before high. stays_later mid b goes (settles_none mid b lends) t w.answered high w.by_now (w.stays order t before high);
   clear = λ cleared swept none. clear_behind slot' w.behind (mid.lending_at w.answered) (b.lending_at w.answered) (λ attempt. goes.lending w.answered attempt w.by_now) (w.clear cleared swept none);
@@ -607,10 +629,10 @@ module _ (a mid : Told) (s s' : Session) (r : Repository) (v : View) (here : IsW
   Heard = (reaped : Reaped) → s'.met.child ≡ Child.Ended reaped → IsSomeAnd s.store.held.collection (λ c. reaped.attempt ≡ c.job.attempt)
 
   pub watches_of : (rule : Rule) → KeepsSaid a mid → IsPossibleNow a → IsPossibleNow mid → Heard → Concludes → (IsHeldIn (state_in s' q u) → (reaped : Reaped) → s'.met.child ≢ Child.Ended reaped)
-      → IsJudgedIn a mid s s' r v difference → IsSettledIn mid s s' reply → ClearIn a mid s s' line reply → KeepsSpaceIn a mid s' → (NothingPending a → NothingPending mid) → (NothingPending a → Settles a mid) → IsViewIn r v line reply u → PlacedIn rule (image_records here.holds) s.store.held.slot s.store.held.unswept s'.store.held.slot (state_in s r v) v line reply
+      → IsJudgedIn a mid s s' r v difference → IsSettledIn mid s s' reply → ClearIn a mid s s' line reply → KeepsSpaceIn a mid s' → (NothingPending a → NothingPending mid) → (NothingPending a → KeepsSlots a mid) → (NothingPending a → Settles a mid) → (IsLineOf Command.Look line → IsBoundedIn records s.store.held.collection reply) → IsViewIn r v line reply u → PlacedIn rule (image_records here.holds) s.store.held.slot s.store.held.unswept s'.store.held.slot (state_in s r v) v line reply
       → StartsAt s.store.held.slot s'.store.held.slot x → (HasStarted (Ok reply) → IsSomeAnd s'.store.held.collection (λ c. jobs ≡ c.job ∷ [])) → (¬ HasStarted (Ok reply) → jobs ≡ []) → HearsAt s.store.held.slot x → GoesOnBy jobs s.store.held.collection s'.store.held.collection → IsSlicedIn s.store.held.collection s'.store.held.collection reply
       → Watches rule a mid (state_in s r v) v u s.store.held.collection s'.store.held.collection s.store.held.slot s'.store.held.slot s.store.held.unswept s'.store.held.unswept x
-  watches_of rule still possible possible_mid heard concluded unheard judged settled clear space calm settles seen placed starts started unstarted hears goes_on sliced = record {
+  watches_of rule still possible possible_mid heard concluded unheard judged settled clear space calm slots settles bounded seen placed starts started unstarted hears goes_on sliced = record {
     phase = refl;
     phase_behind = refl;
     answered = mid.moment;
@@ -637,6 +659,9 @@ module _ (a mid : Told) (s s' : Session) (r : Repository) (v : View) (here : IsW
     lent = λ held. lent_in a s.store.held r here.holds (state_in s r v) refl held;
     lent_behind = λ held. lent_in mid s'.store.held q working.holds (state_in s' q u) refl held;
     swept = λ swept. clear.settled swept;
+    all_but = λ swept. subst (λ (m : Met). AllLeft (sweeping.IsSwept s'.store.held.slot s.store.held.unswept) m.left mid.held (lending mid)) (sym met_is) (clear.all_but swept);
+    bounded = bounded;
+    slots = slots;
     settles = settles;
     stays = λ order t before high. stays_behind a mid past (settles order) t high before;
     clear = λ cleared swept none. clear.all swept (ap (λ (m : Met). m.left) (sym met_is) ∙ none) cleared;

@@ -175,7 +175,7 @@ module _ (rule : Rule) (decisive : Bool) (seed state number : ℕ) (old mid : Ou
         exchanges = xs;
         first = first;
         run = record {
-          goes_on = goes_on_gone old new spawned held spawns gone.gone trace.goes_on;
+          goes_on = goes_on_gone old new spawned held spawns gone.counts gone.gone trace.goes_on;
           left = left ∙ h.left;
           begins = begins xs;
           first_is = refl;
@@ -185,7 +185,7 @@ module _ (rule : Rule) (decisive : Bool) (seed state number : ℕ) (old mid : Ou
             run = λ b. trace.run (h.ran.trace.known_so b);
             watched = λ b start live. let is = h.ran.trace.known_so b in subst (λ (t : Slot). WatchedIn rule says_nothing false (is_cut_short s') old.told new.told t first xs) (live_at rule decisive h.known h.exchanges h.first h.repository h.view h.slot old mid counts s h.ran is start live)
                 (watched_cut rule says_nothing false (is_cut_short s') cut old.told mid.told new.told (u.begun.files is).goes h.slot first h.exchanges x s.store.held h.repository h.view (h.watched is) (silent is) (h.ran.working is).holds (sym h.ran.phase)
-                (λ order. u.settles is (h.ran.nothing_pending is order)) (λ order none slot live. u.space is (h.ran.nothing_pending is order) none slot live));
+                (λ order. u.settles is (h.ran.nothing_pending is order)) (λ order. u.slots is (h.ran.nothing_pending is order)) (λ order none slot live. u.space is (h.ran.nothing_pending is order) none slot live));
             said = λ b. let is = h.ran.trace.known_so b in record {
               part = [];
               rest = load_text count xs;
@@ -251,7 +251,7 @@ module _ (rule : Rule) (decisive : Bool) (seed state number : ℕ) (old mid : Ou
         exchanges = xs;
         first = first;
         run = record {
-          goes_on = goes_on_gone old new spawned held spawns gone.gone ran.trace.goes_on;
+          goes_on = goes_on_gone old new spawned held spawns gone.counts gone.gone ran.trace.goes_on;
           left = left ∙ h.left;
           begins = begins xs;
           first_is = refl;

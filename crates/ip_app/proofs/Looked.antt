@@ -118,7 +118,7 @@ module _ (told : Told) (store : Held) (r : Repository) (holds : Holds store told
   through e = let many = subst (λ (n : ℕ). check.keep.seen ≡ count_by (starts_between d.job.horizon n) early) e seen in omega (arith, many)
 
   pub checked_by : (before left : ℕ) → looked_by check ≡ before + looks → left + check.keep.next ≡ d.job.end → IsCheckedTo early d.job before (looked_by check) left
-  checked_by before left more is = record { more = omega (arith, more); few = few; next = check.keep.next; rest = is; first = first; all = through }
+  checked_by before left more is = record { more = sym more; few = few; next = check.keep.next; rest = is; first = first; all = through }
 
 pub checked_to : (told : Told) (store : Held) (r : Repository) (holds : Holds store told r) (before : Option Collection) (jobs : List Job) (left : ℕ) → GoesOnBy jobs before store.collection → jobs ≡ [] → IsSlicedIn before store.collection (Reply.Checking left)
     → IsSomeAnd before (λ c. IsCheckedTo (until c.job.end holds.stands.standing.records) c.job (looked_in before) (looked_in store.collection) left)

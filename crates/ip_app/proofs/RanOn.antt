@@ -39,7 +39,7 @@ use Rattle.ip_app.specs.declared.statuses.Status.{Status}
 use Rattle.ip_app.specs.Exchanges.{Exchange, conditions, Run, after_all, turns_in}
 use Rattle.ip_app.specs.Happening.{Happens, HappensCut, AllHappen, HappenIn, phase_after, started_in, ends_in}
 use Rattle.ip_session.specs.Asking.{LetsGo, starts_in}
-use Rattle.ip_app.specs.Turns.{turn_counts, Follow}
+use Rattle.ip_app.specs.Turns.{turn_counts, AreCounts, Follow}
 use Rattle.ip_app.specs.Outside.{Outside, Tells, Knows, GoesOn, IsBound, IsUnasked}
 use Rattle.ip_app.specs.Run.{IsBehindOpening, Notes, AsksChildren}
 use Rattle.ip_app.proofs.Counting.{bound_to, spawns_on, still_at, follow_more}
@@ -172,10 +172,11 @@ pub record LetsGoAs (new : Outside) (spawned : spawn.Told) (held : Option ℕ) (
   pub few : length ends ≤ 1
   pub told : IsTrue new.spawner_tells → spawned ≡ told_with new.spawned.started (new.spawned.reaped ++ ends)
   pub none : held ≡ None
+  pub counts : AreCounts new.spawns
   pub gone : LetsGo new.spawns spawns
 
-pub goes_on_gone : (old new : Outside) (spawned : spawn.Told) (held : Option ℕ) (spawns : SpawnCounts) → LetsGo new.spawns spawns → GoesOn old new → GoesOn old (let_go_as new spawned held spawns)
-goes_on_gone old new spawned held spawns gone g = record {
+pub goes_on_gone : (old new : Outside) (spawned : spawn.Told) (held : Option ℕ) (spawns : SpawnCounts) → AreCounts new.spawns → LetsGo new.spawns spawns → GoesOn old new → GoesOn old (let_go_as new spawned held spawns)
+goes_on_gone old new spawned held spawns counts gone g = record {
   dir = g.dir;
   source_tells = g.source_tells;
   ground_tells = g.ground_tells;
@@ -183,7 +184,7 @@ goes_on_gone old new spawned held spawns gone g = record {
   log_tells = g.log_tells;
   read_faults = g.read_faults;
   counts = g.counts;
-  spawns = spawns_on old.spawns new.spawns spawns g.spawns (later_gone new.spawns spawns gone);
+  spawns = spawns_on old.spawns new.spawns spawns g.spawns (later_gone new.spawns spawns counts gone);
 }
 
 -- what was started and reaped in these exchanges, and then

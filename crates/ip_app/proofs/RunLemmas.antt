@@ -286,7 +286,7 @@ serves_stopped rule decisive s old mid new lines lines' counts counts' session h
       taken = taken;
       exchanges = h.exchanges;
       first = first;
-      goes_on = goes_on_gone old new spawned held spawns gone.gone (goes_on_then old mid new h.ran.trace.goes_on t.goes_on);
+      goes_on = goes_on_gone old new spawned held spawns gone.counts gone.gone (goes_on_then old mid new h.ran.trace.goes_on t.goes_on);
       begins = end.begins;
       first_is = refl;
       replies = record {
@@ -363,7 +363,7 @@ serves_cut rule decisive s old mid new lines lines' counts counts' session h cut
       taken = taken;
       exchanges = xs;
       first = first;
-      goes_on = goes_on_gone old new spawned held spawns gone.gone trace.goes_on;
+      goes_on = goes_on_gone old new spawned held spawns gone.counts gone.gone trace.goes_on;
       begins = opened_so xs;
       first_is = refl;
       replies = record {
@@ -373,7 +373,7 @@ serves_cut rule decisive s old mid new lines lines' counts counts' session h cut
         run = λ b. trace.run (h.ran.trace.known_so b);
         watched = λ b start live. let is = h.ran.trace.known_so b in subst (λ (t : Slot). WatchedIn rule reply_text (is_unsaid s) (is_cut_short s) old.told new.told t first xs) (live_at rule decisive h.known h.exchanges h.first h.repository h.view h.slot old mid counts session h.ran is start live)
             (watched_cut rule reply_text (is_unsaid s) (is_cut_short s) u.short old.told mid.told new.told (goes.files is).goes h.slot first h.exchanges x session.store.held h.repository h.view (h.watched is) (h.said is ∙ ap (λ (u : Bytes). said old.told ++ u) (texts_same h.exchanges)) (h.ran.working is).holds (sym h.ran.phase)
-            (λ order. u.settles is (h.ran.nothing_pending is order)) (λ order none slot live. u.space is (h.ran.nothing_pending is order) none slot live));
+            (λ order. u.settles is (h.ran.nothing_pending is order)) (λ order. u.slots is (h.ran.nothing_pending is order)) (λ order none slot live. u.space is (h.ran.nothing_pending is order) none slot live));
         said_part = λ b. let is = h.ran.trace.known_so b in record { whole = h.exchanges; cut = x ∷ []; part = []; unsaid = reply_text x.reply; all = refl; one = omega arith; some = λ _ _ none. absurd (cc none); text = sym (append_nil (reply_text x.reply)); said_is = said_now mid.told new.told (goes.files is).goes (u.quiet is) ∙ (h.said is ∙ sym (append_nil (said old.told ++ texts_in h.exchanges))); silent = λ _. refl };
         said_all = λ b c. absurd (cc (c, cut));
       };
@@ -409,7 +409,7 @@ serves_half rule decisive old mid new lines lines' counts counts' session sessio
       taken = done_more rule decisive old mid new lines lines' counts session h x u.took ++ pending lines';
       exchanges = xs;
       first = first;
-      goes_on = goes_on_gone old new spawned held spawns gone.gone ran.trace.goes_on;
+      goes_on = goes_on_gone old new spawned held spawns gone.counts gone.gone ran.trace.goes_on;
       begins = λ b. h.ran.trace.began b;
       first_is = refl;
       replies = record {

@@ -4,7 +4,8 @@ use Rattle.std.proofs.Common.{◌≡◌, ℕ, ◌+◌, ◌-◌, ◌^◌, ◌≤�
 use Rattle.ip_ground.specs.Counts.{Noted}
 use Rattle.ip_ground.specs.declared.names.GroundFault.{GroundFault}
 use Rattle.ip_ground.specs.Counts.{SayFault}
-use Rattle.ip_ground.specs.Told.{Told}
+use Rattle.ip_ground.specs.declared.names.FileName.TheVariants.{Control}
+use Rattle.ip_ground.specs.Told.{Told, IsPossibleNow, IsSynced}
 use Rattle.ip_ground.specs.Calls.{Says}
 use Rattle.ip_image.specs.declared.counts.TurnCounts.{TurnCounts}
 use Rattle.ip_image.specs.Pending.{NothingPending}
@@ -34,7 +35,7 @@ pub took_of : (old new : Outside) (lines lines' : Lines) (line : Bytes) → Gets
 took_of old new lines lines' line gets count = record { front = gets.front; no_line_feed = gets.no_line_feed; short = gets.short; count = count }
 
 module _ (rule : Rule) (known : Bool) (old mid : Outside) (read text shown : Bytes) (c c' : TurnCounts) (s s' : Session) (r : Repository) (v : View) (h : Replied rule known old mid read text c c' s s' r v) (same : shown ≡ text) (line : Bytes) (read_is : read ≡ line)
-    (left : Bytes) (read_faults : ℕ) (told : Told) (counts : Noted) (lines lines' : Lines) (took : Took old (told_as mid left read_faults told counts) lines lines' line) (reads : read_faults ≡ mid.read_faults) where
+    (left : Bytes) (read_faults : ℕ) (told : Told) (counts : Noted) (lines lines' : Lines) (took : Took old (told_as mid left read_faults told counts) lines lines' line) (reads : read_faults ≡ mid.read_faults) (kept : IsTrue known → IsSynced old.told Control) (possible : IsTrue known → IsPossibleNow mid.told) where
   new : Outside
   new = told_as mid left read_faults told counts
 
@@ -57,7 +58,7 @@ module _ (rule : Rule) (known : Bool) (old mid : Outside) (read text shown : Byt
     after = h.after;
     view = h.view;
     took = took_it;
-    exchanged = exchanged_along rule known old mid c c' left read_faults told counts reads (files (Ok tt) says) (falls_same mid.counts counts still) (ap (λ (n : Noted). turn_counts n mid.spawns) (sym still)) (ap (λ (n : Noted). n.bound) still) s s' r v h.exchange h.after h.view (works (Ok tt) says) (order (Ok tt) says) (λ is. (says is).files) (λ is. (says is).lending) h.exchanged;
+    exchanged = exchanged_along rule known old mid c c' left read_faults told counts reads (files (Ok tt) says) (falls_same mid.counts counts still) (ap (λ (n : Noted). turn_counts n mid.spawns) (sym still)) (ap (λ (n : Noted). n.bound) still) s s' r v h.exchange h.after h.view (works (Ok tt) says) (order (Ok tt) says) (λ is. (says is).files) (λ is. (says is).lending) kept possible h.exchanged;
     no_fault = removals_on old.counts mid.counts counts h.no_fault (removals_same mid.counts counts still);
     said = λ is. said_of old.told mid.told told (h.exchanged.begun.files is) (h.quiet is) shown (Ok tt) (says is) _ (same ∙ h.text_is);
     turning = λ is none. turned_moments mid.told told shown (Ok tt) (says is) old.told (h.exchanged.begun.files is).goes (h.quiet is) _ (same ∙ h.text_is) r h.after (h.atomic is none) s'.store.held (h.exchanged.working is).holds (h.exchanged.nothing_pending is none);
@@ -70,7 +71,7 @@ module _ (rule : Rule) (known : Bool) (old mid : Outside) (read text shown : Byt
     after = h.after;
     view = h.view;
     took = took_it;
-    exchanged = exchanged_along rule known old mid c c' left read_faults told counts reads (files (Err fault) says) (say_falls mid.counts counts small counted) (counts_same mid.counts counts mid.spawns counted.file_faults counted.remove_faults) counted.bound s s' r v h.exchange h.after h.view (works (Err fault) says) (order (Err fault) says) (λ is. (says is).files) (λ is. (says is).lending) h.exchanged;
+    exchanged = exchanged_along rule known old mid c c' left read_faults told counts reads (files (Err fault) says) (say_falls mid.counts counts small counted) (counts_same mid.counts counts mid.spawns counted.file_faults counted.remove_faults) counted.bound s s' r v h.exchange h.after h.view (works (Err fault) says) (order (Err fault) says) (λ is. (says is).files) (λ is. (says is).lending) kept possible h.exchanged;
     counted = serving_on status.SayFault old.counts mid.counts counts h.no_fault (say_counts mid.counts counts counted);
     part = λ is. part_of old.told mid.told told (h.exchanged.begun.files is) (h.quiet is) shown (Err fault) (says is) _ (same ∙ h.text_is);
     turning = λ is none. turned_moments mid.told told shown (Err fault) (says is) old.told (h.exchanged.begun.files is).goes (h.quiet is) _ (same ∙ h.text_is) r h.after (h.atomic is none) s'.store.held (h.exchanged.working is).holds (h.exchanged.nothing_pending is none);

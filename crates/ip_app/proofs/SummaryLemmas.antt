@@ -7,7 +7,8 @@ use Rattle.std.proofs.lemmas.Bool.{cases_lt}
 use Rattle.ip_ground.specs.Counts.{Noted}
 use Rattle.ip_ground.specs.declared.names.GroundFault.{GroundFault}
 use Rattle.ip_ground.specs.Counts.{SayFault}
-use Rattle.ip_ground.specs.Told.{Told, said}
+use Rattle.ip_ground.specs.declared.names.FileName.TheVariants.{Control}
+use Rattle.ip_ground.specs.Told.{Told, said, IsPossibleNow, IsSynced}
 use Rattle.ip_ground.specs.Calls.{Says}
 use Rattle.ip_ground.proofs.Spans.{goes_on, stays_on, custody_on}
 use Rattle.ip_image.specs.declared.counts.TurnCounts.{TurnCounts}
@@ -61,7 +62,7 @@ finish_cut rule status.Unfinished known old new line c c' s s' r v h = absurd h
 finish_cut rule status.Exists known old new line c c' s s' r v h = absurd h
 
 module _ (rule : Rule) (known : Bool) (old mid : Outside) (text line first second : Bytes) (c c' : TurnCounts) (s s' : Session) (r : Repository) (v : View) (h : Replied rule known old mid (codes "stat") text c c' s s' r v) (first_is : first ≡ line) (second_is : second ≡ text)
-    (told : Told) (counts : Noted) where
+    (told : Told) (counts : Noted) (kept : IsTrue known → IsSynced old.told Control) (possible : IsTrue known → IsPossibleNow mid.told) where
   all_is : first ++ second ≡ line ++ reply_text h.exchange.reply
   all_is = ap (λ (t : Bytes). t ++ second) first_is ∙ ap (λ (t : Bytes). line ++ t) (second_is ∙ h.text_is)
 
@@ -81,7 +82,7 @@ module _ (rule : Rule) (known : Bool) (old mid : Outside) (text line first secon
     after = h.after;
     view = h.view;
     line_is = h.line_is;
-    exchanged = exchanged_along rule known old mid c c' mid.left mid.read_faults told counts refl (files (Ok tt) says) (falls_same mid.counts counts still) (ap (λ (n : Noted). turn_counts n mid.spawns) (sym still)) (ap (λ (n : Noted). n.bound) still) s s' r v h.exchange h.after h.view (works (Ok tt) says) (order (Ok tt) says) (λ is. (says is).files) (λ is. (says is).lending) h.exchanged;
+    exchanged = exchanged_along rule known old mid c c' mid.left mid.read_faults told counts refl (files (Ok tt) says) (falls_same mid.counts counts still) (ap (λ (n : Noted). turn_counts n mid.spawns) (sym still)) (ap (λ (n : Noted). n.bound) still) s s' r v h.exchange h.after h.view (works (Ok tt) says) (order (Ok tt) says) (λ is. (says is).files) (λ is. (says is).lending) kept possible h.exchanged;
     counted = removals_on old.counts mid.counts counts h.no_fault (removals_same mid.counts counts still);
     part = λ is. (line ++ reply_text h.exchange.reply, [], append_nil (line ++ reply_text h.exchange.reply), said_of old.told mid.told told (h.exchanged.begun.files is) (h.quiet is) (first ++ second) (Ok tt) (says is) _ all_is);
     whole = λ is done. refl;
@@ -94,7 +95,7 @@ module _ (rule : Rule) (known : Bool) (old mid : Outside) (text line first secon
     after = h.after;
     view = h.view;
     line_is = h.line_is;
-    exchanged = exchanged_along rule known old mid c c' mid.left mid.read_faults told counts refl (files (Err fault) says) (say_falls mid.counts counts small counted) (counts_same mid.counts counts mid.spawns counted.file_faults counted.remove_faults) counted.bound s s' r v h.exchange h.after h.view (works (Err fault) says) (order (Err fault) says) (λ is. (says is).files) (λ is. (says is).lending) h.exchanged;
+    exchanged = exchanged_along rule known old mid c c' mid.left mid.read_faults told counts refl (files (Err fault) says) (say_falls mid.counts counts small counted) (counts_same mid.counts counts mid.spawns counted.file_faults counted.remove_faults) counted.bound s s' r v h.exchange h.after h.view (works (Err fault) says) (order (Err fault) says) (λ is. (says is).files) (λ is. (says is).lending) kept possible h.exchanged;
     counted = serving_on status.SayFault old.counts mid.counts counts h.no_fault (say_counts mid.counts counts counted);
     part = λ is. part_of old.told mid.told told (h.exchanged.begun.files is) (h.quiet is) (first ++ second) (Err fault) (says is) _ all_is;
     whole = λ is done. absurd (cc done);

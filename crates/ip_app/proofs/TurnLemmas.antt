@@ -10,7 +10,8 @@ use Rattle.ip_base.specs.declared.exit.Reaped.{Reaped}
 use Rattle.ip_spawn.specs.declared.job.Job.{Job}
 use Rattle.ip_ground.specs.Counts.{NoneFalls}
 use Rattle.ip_ground.specs.declared.names.FileName.{FileName}
-use Rattle.ip_ground.specs.Told.{Told, said, KeepsPast, KeepsFile, KeepsCustody, KeepsSaid, IsPossibleNow}
+use Rattle.ip_ground.specs.declared.names.FileName.TheVariants.{Control}
+use Rattle.ip_ground.specs.Told.{Told, said, KeepsPast, KeepsFile, KeepsCustody, KeepsSaid, IsPossibleNow, IsSynced}
 use Rattle.ip_ground.specs.Calls.{Says}
 use Rattle.ip_ground.proofs.Spans.{said_now, lending_now}
 use Rattle.ip_image.specs.declared.counts.TurnCounts.{TurnCounts}
@@ -22,6 +23,7 @@ use Rattle.ip_spec.specs.Path.{Bytes}
 use Rattle.ip_spec.specs.Machine.{State}
 use Rattle.ip_spec.specs.Line.{IsLineOf}
 use Rattle.ip_spec.specs.Script.{LineStep}
+use Rattle.ip_held.specs.Slots.{KeepsSlots}
 use Rattle.ip_held.specs.Sweeping.{KeepsFiles}
 use Rattle.ip_held.proofs.KeptFiles.{keeps_on, keeps_itself}
 use Rattle.ip_held.proofs.Recovering.{held_has}
@@ -104,13 +106,13 @@ module _ (rule : Rule) (known : Bool) (old mid : Outside) (c c' : TurnCounts) (l
     possible = h.possible;
   }
 
-  pub exchanged_along : (s s' : Session) (r : Repository) (v : View) (x : Exchange) (after : Repository) (view : View) → (IsTrue known → IsWorking mid.told s' after view → IsWorking told s' after view) → (IsTrue known → NothingPending mid.told → NothingPending told) → (IsTrue known → (file : FileName) → KeepsFile mid.told told file) → (IsTrue known → (attempt : ℕ) → KeepsCustody mid.told told attempt)
+  pub exchanged_along : (s s' : Session) (r : Repository) (v : View) (x : Exchange) (after : Repository) (view : View) → (IsTrue known → IsWorking mid.told s' after view → IsWorking told s' after view) → (IsTrue known → NothingPending mid.told → NothingPending told) → (IsTrue known → (file : FileName) → KeepsFile mid.told told file) → (IsTrue known → (attempt : ℕ) → KeepsCustody mid.told told attempt) → (IsTrue known → IsSynced old.told Control) → (IsTrue known → IsPossibleNow mid.told)
       → Exchanged rule known old mid c c' s s' r v x after view → Exchanged rule known old (told_as mid left read_faults told counts) c c' s s' r v x after view
-  exchanged_along s s' r v x after view works order stays lends h = record {
+  exchanged_along s s' r v x after view works order stays lends kept possible h = record {
     begun = begun_along (state_in s r v) x h.begun;
     now_at = h.now_at;
     goes_on_by = h.goes_on_by;
-    watches = λ is. watches_along rule old.told mid.told told (h.begun.files is).goes (files is).goes (lends is) (state_in s r v) v view s.store.held.collection s'.store.held.collection s.store.held.slot s'.store.held.slot s.store.held.unswept s'.store.held.unswept x (h.nothing_pending is) (stays is) (held_has s'.store.held after mid.told (h.working is).holds) (h.watches is);
+    watches = λ is. watches_along rule old.told mid.told told (h.begun.files is).goes (files is).goes (lends is) (state_in s r v) v view s.store.held.collection s'.store.held.collection s.store.held.slot s'.store.held.slot s.store.held.unswept s'.store.held.unswept x (h.nothing_pending is) (stays is) (held_has s'.store.held after mid.told (h.working is).holds) (kept is) (possible is) (h.watches is);
     clear = λ is cleared. clear_along mid.told told (λ file. (stays is file).held) (λ attempt. lending_now mid.told told (files is).goes attempt (lends is attempt)) s'.store.held.slot s'.store.held.unswept (h.clear is cleared);
     happens = h.happens;
     phase = h.phase;
@@ -188,6 +190,7 @@ stops_short rule t known old new line read lines lines' counts counts' s s' r v 
       happens = u.happens;
       quiet = u.quiet;
       atomic = u.atomic;
+      slots = u.slots;
       again = u.again;
       settles = u.settles;
       space = u.space;
@@ -229,12 +232,13 @@ pub record GoesTo (rule : Rule) (old new : Told) (s s' : Session) (r : Repositor
   pub files : KeepsFiles old new
   pub said : KeepsSaid old new
   pub atomic : NothingPending old → IsAtomic old new r x.0
+  pub slots : NothingPending old → KeepsSlots old new
   pub nothing_pending : NothingPending old → NothingPending new
 
 pub went_to : (rule : Rule) (known : Bool) (old new : Told) (s s' : Session) (r : Repository) (v : View) (line : Bytes) (reply : Reply) → (IsTrue known → GoesIn rule old new s s' r v line reply)
     → (x : Repository × View × Option Difference) × (IsTrue known → GoesTo rule old new s s' r v line reply x)
 went_to rule known old new s s' r v line reply goes = settled (GoesTo rule old new s s' r v line reply) known (r, v, None)
-    (λ is. let h = goes is in ((h.after, h.view, h.difference), record { gives = h.gives; working = h.is_at; seen = h.seen; only = h.only; stays = h.stays; judged = h.judged; settled = h.settled; space = h.space; files = h.files; said = h.said; atomic = h.atomic; nothing_pending = h.nothing_pending }))
+    (λ is. let h = goes is in ((h.after, h.view, h.difference), record { gives = h.gives; working = h.is_at; seen = h.seen; only = h.only; stays = h.stays; judged = h.judged; settled = h.settled; space = h.space; files = h.files; said = h.said; atomic = h.atomic; slots = h.slots; nothing_pending = h.nothing_pending }))
 
 -- or it was cut short, with this reply, this state of the machine and this difference
 pub record CutTo (rule : Rule) (old new : Told) (s s' : Session) (r : Repository) (v : View) (line : Bytes) (x : Reply × State × Option Difference) : Type 0 where
@@ -245,8 +249,9 @@ pub record CutTo (rule : Rule) (old new : Told) (s s' : Session) (r : Repository
   pub files : KeepsFiles old new
   pub said : KeepsSaid old new
   pub atomic : NothingPending old → IsAtomic old new r x.1.repository
+  pub slots : NothingPending old → KeepsSlots old new
 
 pub cut_to : (rule : Rule) (known : Bool) (old new : Told) (s s' : Session) (r : Repository) (v : View) (line : Bytes) → (IsTrue known → CutIn rule old new s s' r v line)
     → (x : Reply × State × Option Difference) × (IsTrue known → CutTo rule old new s s' r v line x)
 cut_to rule known old new s s' r v line cut = settled (CutTo rule old new s s' r v line) known (Reply.Accepted, state_in s r v, None)
-    (λ is. let h = cut is in ((h.reply, h.after, h.difference), record { gives = h.gives; only = h.only; stays = h.stays; space = h.space; files = h.files; said = h.said; atomic = h.atomic }))
+    (λ is. let h = cut is in ((h.reply, h.after, h.difference), record { gives = h.gives; only = h.only; stays = h.stays; space = h.space; files = h.files; said = h.said; atomic = h.atomic; slots = h.slots }))

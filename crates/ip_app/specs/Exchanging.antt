@@ -30,6 +30,7 @@ use Rattle.ip_spec.specs.Script.{LineStep}
 use Rattle.ip_spec.specs.Text.{reply_text}
 use Rattle.ip_held.specs.Clear.{IsCleared, IsClearAt, KeepsClear}
 use Rattle.ip_held.specs.Collecting.{phase_of, child_of}
+use Rattle.ip_held.specs.Slots.{KeepsSlots}
 use Rattle.ip_held.specs.Sweeping.{KeepsFiles}
 use Rattle.ip_publish.specs.Publishing.{IsOfStore}
 use Rattle.ip_session.specs.declared.session.Session.{Session}
@@ -179,6 +180,7 @@ pub record CutShort (rule : Rule) (status : Status) (known : Bool) (old new : Ou
   pub unwritten : IsTrue old.ground_tells → IsDamage status → WritesNone old.told new.told
   pub quiet : IsTrue known → KeepsSaid old.told new.told
   pub atomic : IsTrue known → NothingPending old.told → IsAtomic old.told new.told state.repository exchange.after.repository
+  pub slots : IsTrue known → NothingPending old.told → KeepsSlots old.told new.told
   pub again : IsTrue known → NothingPending old.told → MayServe new.told
   pub settles : IsTrue known → NothingPending old.told → Settles old.told new.told
   -- what a child may read stays, where it did not hear of its end

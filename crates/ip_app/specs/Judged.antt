@@ -7,7 +7,7 @@
 --     IsSameFor job image other      the bytes that a child may read are the same.      ReadsSame told child until      so they are up to this moment.      IsHeldIn s      a child is held
 --     HasSweptIn x      a sweep was made behind it
 --     Point      a point of a run between two commands.      begun_at slot first      where it begins.      behind_it p x answered behind view slot unswept looked      behind an exchange.      point_of s view slot unswept last collection      by a collection
---     looked_in collection      how many records were looked at.      IsCheckedTo records job before after left      behind a look that is not through
+--     AllLeft these left image lending      so many of these files are there at most.      looked_in collection      how many records were looked at.      IsCheckedTo records job before after left      behind a look that is not through
 --     IsAimed records phase job      where the horizon of a job lies.
 --     StaysFrom told t from, Settles a b      what was settled is so still.      IsUnsweptBehind x slot before now      what is unswept behind an exchange
 --     Watches rule a b s v view before now slot slot' unswept unswept' x      so of an exchange that began in this state, between what is told before it and behind its reply
@@ -17,13 +17,13 @@
 --     HearsNone cut      the last command heard of no child's end
 --     WatchedIn rule says is_unsaid is_cut_short old new slot first exchanges      of all exchanges of a run, or of all but one that was cut short
 --     IsWatchedTo rule says old now slot first exchanges collection slot' unswept view      so far: a collection that goes on is that of the last child
-use Rattle.std.specs.Prelude.{◌≡◌, ◌≢◌, ◌⊎◌, ℕ, ◌+◌, ◌*◌, ◌<◌, ◌≤◌, Bool, true, false, List, [], ◌∷◌, ◌++◌, length, count_by, Option, Some, None, Ok, IsTrue, IsSome, IfSome, IsSomeAnd}
+use Rattle.std.specs.Prelude.{◌≡◌, ◌≢◌, ◌⊎◌, ℕ, ◌+◌, ◌*◌, ◌<◌, ◌≤◌, ◌-◌, ◌^◌, Bool, true, false, List, [], ◌∷◌, ◌++◌, length, count_by, Option, Some, None, Ok, IsTrue, IsSome, IfSome, IsSomeAnd, Contains}
 use Rattle.ip_ground.specs.declared.names.FileName.{FileName}
 use Rattle.ip_ground.specs.declared.names.FileName.TheVariants.{Mapping, Prefix}
 use Rattle.ip_base.specs.declared.exit.Reaped.{Reaped}
 use Rattle.ip_ground.specs.Contents.{Image}
 use Rattle.ip_ground.specs.Custody as custody
-use Rattle.ip_ground.specs.Custody.{settled}
+use Rattle.ip_ground.specs.Custody.{Custody, custody_of, settled}
 use Rattle.ip_ground.specs.Told.{Told, said, lending, IsPossible, IsSettledAs}
 use Rattle.ip_spawn.specs.declared.job.Job.{Job}
 use Rattle.ip_spec.specs.declared.command.Command.{Command}
@@ -48,9 +48,11 @@ use Rattle.ip_held.specs.declared.collection.Collection.{Collection}
 use Rattle.ip_held.specs.declared.collection.Unswept.{Unswept}
 use Rattle.ip_held.specs.Clear.{IsClear, IsClearAt, IsClearTo, unswept_in}
 use Rattle.ip_held.specs.Collecting.{phase_of, until, IsJobOf}
+use Rattle.ip_held.specs.Slots.{IsSlotFrom, KeepsSlots}
+use Rattle.ip_held.specs.Sweeping as sweeping
 use Rattle.ip_keep.specs.Keeping.{starts_between}
 use Rattle.ip_collects.specs.Finishing.{looked_at}
-use Rattle.ip_session.specs.Asking.{HasStarted, looks}
+use Rattle.ip_session.specs.Asking.{HasStarted, IsBoundedIn, looks}
 use Rattle.ip_session.specs.Clearing.{SweepsBehind, unswept_behind}
 use Rattle.ip_session.specs.Placing.{PlacedIn}
 use Rattle.ip_session.specs.Session.{IsViewIn}
@@ -141,15 +143,19 @@ begun_at slot first = record { state = first; view = no_view; slot = slot; unswe
 abbrev pub behind_it : Point → Exchange → (answered : ℕ) → Image → View → Slot → Unswept → ℕ → Point
 behind_it p x answered behind view slot unswept looked = record { state = x.after; view = view; slot = slot; unswept = unswept; last = last_started answered behind x.started p.last; looked = looked }
 
+-- So many of these files are there at most, by whose they are, but for those that a child may write. A count that stands at its last value says nothing.
+abbrev pub AllLeft : (FileName → Type 0) → ℕ → Image → (ℕ → Custody) → Type 0
+AllLeft these left image lending = left < 2 ^ 64 - 1 → (those : List FileName) × (length those ≤ left) × ((file : FileName) → these file → ¬ custody.IsForeign (custody_of lending file) → (image file ≡ None) ⊎ Contains those file)
+
 -- how many records were looked at
 abbrev pub looked_in : Option Collection → ℕ
 looked_in None = 0
 looked_in (Some c) = looked_at c
 
--- A check that is not through has looked at that many records more at least; more than that only where want of memory came in between. So it is answered so often at most.
+-- A check that is not through has looked at that many records more; so it is answered so often at most.
 -- Of the records below the job's end those from its horizon on are looked at first, ascending.
 pub record IsCheckedTo (records : Records) (job : Job) (before after left : ℕ) : Type 0 where
-  pub more : before + looks ≤ after
+  pub more : before + looks ≡ after
   pub few : (kept : Records) → IsKept records job.horizon job.end kept → after ≤ count_by (starts_between job.horizon job.end) records + 2 * length kept
   -- where the next of these begins, or the end; from there on so many bytes are left
   pub next : ℕ
@@ -205,6 +211,11 @@ pub record Watches (rule : Rule) (a b : Told) (s : State) (v view : View) (befor
   pub lent : IsHeldIn s → IsSomeAnd before (λ c. lending a c.job.attempt ≡ custody.lent)
   pub lent_behind : IsHeldIn x.after → IsSomeAnd now (λ c. b.lending_at answered c.job.attempt ≡ custody.lent)
   pub swept : HasSweptIn x → IsSomeAnd before (λ c. (pair : Image) × IsSettledAt b answered c.job.attempt pair)
+  -- of what the sweep was to remove all is gone but so many files
+  pub all_but : HasSweptIn x → AllLeft (sweeping.IsSwept slot' unswept) x.turn.met.left behind (b.lending_at answered)
+  -- a look that collects looks at no more records than any
+  pub bounded : IsLineOf Command.Look x.line → IsBoundedIn stands.standing.records before x.reply
+  pub slots : NothingPending a → KeepsSlots a b
   pub settles : NothingPending a → Settles a b
   pub stays : NothingPending a → (t : ℕ) → (t ≤ a.moment → StaysFrom a t a.moment) → t ≤ answered → StaysFrom b t answered
   -- where nothing was left to be cleared that is not unswept: behind a sweep that left nothing all is gone that no collection needs
@@ -249,7 +260,13 @@ pub record Watched (rule : Rule) (old told : Told) (said_before : Bytes) (since 
   pub lent : IsHeldIn p.state → IsSomeAnd p.last (λ child. told.lending_at began child.job.attempt ≡ custody.lent)
   pub lent_behind : IsHeldIn x.after → IsSomeAnd q.last (λ child. told.lending_at answered child.job.attempt ≡ custody.lent)
   pub swept : HasSweptIn x → IsSomeAnd p.last (λ child. (pair : Image) × IsSettledAt told answered child.job.attempt pair)
-  -- where nothing was pending at first: what was settled by then stays so up to the end of the run
+  -- of what the sweep was to remove all is gone but so many files
+  pub all_but : HasSweptIn x → AllLeft (sweeping.IsSwept q.slot p.unswept) x.turn.met.left behind (told.lending_at answered)
+  -- a look that collects looks at no more records than any
+  pub bounded : IsLineOf Command.Look x.line → (floor left : ℕ) → x.reply ≡ Reply.Collected floor left → IsSomeAnd p.last (λ child. count_by (starts_between child.job.horizon child.job.end) stands.standing.records ≤ p.looked + looks)
+  -- where nothing was pending at first: the slot that was live is so in whatever a crash leaves, or the next
+  pub slots : NothingPending old → (t : ℕ) → began < t → t ≤ answered → (crashed : Image) → IsPossible told t crashed → IsSlotFrom p.slot crashed
+  -- what was settled by then stays so up to the end of the run
   pub stays : NothingPending old → (t : ℕ) → old.moment ≤ t → t ≤ answered → StaysFrom told t answered
   -- Where nothing was left to be cleared when the run began that its slot names as swept: behind a sweep that left nothing all is gone that no collection needs.
   pub clear : IsClearAt old → HasSweptIn x → x.turn.met.left ≡ 0 → (slot : Slot) → HasLive slot behind → IsClear slot behind (told.lending_at answered)
@@ -294,6 +311,8 @@ pub record WatchedIn (rule : Rule) (says : Reply → Bytes) (is_unsaid is_cut_sh
   -- A child that is held then may still write its files, and reads the same up to that moment; and up to the end of the run, unless the last command was cut short and heard that it has ended.
   pub lent : IsHeldIn (after_all first whole) → IsSomeAnd end.last (λ child. new.lending_at ended child.job.attempt ≡ custody.lent)
   pub reads : NothingPending old → IsHeldIn (after_all first whole) → IsSomeAnd end.last (λ child. ReadsSame new child ended × (HearsNone cut → ReadsSame new child new.moment))
+  -- where nothing was pending at first: while the last command is cut short too the slot that was live is so in whatever a crash leaves, or the next
+  pub slots : NothingPending old → cut ≢ [] → (t : ℕ) → ended < t → t ≤ new.moment → (crashed : Image) → IsPossible new t crashed → IsSlotFrom end.slot crashed
 
 -- the last child, with the number of records of its job that were looked at
 abbrev pub point_of : State → View → Slot → Unswept → Option Started → Option Collection → Point

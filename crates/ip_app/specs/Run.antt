@@ -266,7 +266,8 @@ pub record IsThere (old new : Told) : Type 0 where
 abbrev pub InitRow : (chunk : ℕ) → Status → (tells : Bool) → Told → Told → Type 0
 InitRow chunk Status.Done tells old new = IsTrue tells → IsMade chunk old new
 InitRow chunk Status.Exists tells old new = IsTrue tells → IsThere old new
-InitRow chunk Status.GroundFault tells old new = Unit {0}
+-- a store that is there stays, behind a fault too
+InitRow chunk Status.GroundFault tells old new = IsTrue tells → IsSome (live_index (control_in old.held)) → ChangesOnly NoFile old new
 -- before the files are touched
 InitRow chunk Status.Memory tells old new = IsTrue tells → ChangesOnly NoFile old new
 InitRow chunk _ tells old new = ⊥

@@ -20,6 +20,7 @@ use Rattle.ip_spec.specs.Repository.{Repository}
 use Rattle.ip_spec.specs.View.{View}
 use Rattle.ip_spec.specs.Script.{whole_lines}
 use Rattle.ip_spec.specs.Text.{reply_text}
+use Rattle.ip_held.specs.Slots.{KeepsSlots}
 use Rattle.ip_held.specs.Sweeping.{KeepsFiles}
 use Rattle.ip_merge.specs.Rules.{IsDecisive}
 use Rattle.ip_session.specs.declared.session.Session.{Session}
@@ -108,6 +109,7 @@ pub record CutOff (rule : Rule) (status : Status) (known : Bool) (old new : Outs
   pub happens : HappensCut state.phase exchange
   pub quiet : IsTrue known → KeepsSaid old.told new.told
   pub atomic : IsTrue known → NothingPending old.told → IsAtomic old.told new.told state.repository exchange.after.repository
+  pub slots : IsTrue known → NothingPending old.told → KeepsSlots old.told new.told
   pub again : IsTrue known → NothingPending old.told → MayServe new.told
   pub settles : IsTrue known → NothingPending old.told → Settles old.told new.told
   -- what a child may read stays while a command is cut short that did not hear of its end

@@ -1,8 +1,9 @@
 -- The counts of turns.
+--     AreCounts spawns      each is a number of its type
 --     turn_counts noted spawns      what a turn tells of what a ground and a spawner counted.      turn_of counts spawns      so of the counts alone.      SpawnsLater earlier later      none of a spawner's counts fell
 --     IsLater earlier later      no count fell
 --     Follow first turns last      each turn begins with the counts that the one before it ended with; no fault of the ground was counted in any but the last
-use Rattle.std.specs.Prelude.{◌≡◌, ◌≢◌, ◌≤◌, List, [], ◌∷◌}
+use Rattle.std.specs.Prelude.{◌≡◌, ◌≢◌, ◌-◌, ◌^◌, ◌≤◌, List, [], ◌∷◌}
 use Rattle.ip_ground.specs.Counts.{Noted, counts_in}
 use Rattle.ip_ground.specs.declared.names.GroundCounts.{GroundCounts}
 use Rattle.ip_spawn.specs.declared.spawner.SpawnCounts.{SpawnCounts}
@@ -14,6 +15,12 @@ turn_of counts spawns = record { file_faults = counts.file_faults; remove_faults
 
 abbrev pub turn_counts : Noted → SpawnCounts → TurnCounts
 turn_counts noted spawns = turn_of (counts_in noted) spawns
+
+pub record AreCounts (spawns : SpawnCounts) : Type 0 where
+  pub running : spawns.running ≤ 2 ^ 64 - 1
+  pub waits : spawns.waits ≤ 2 ^ 64 - 1
+  pub reaps : spawns.reaps ≤ 2 ^ 64 - 1
+  pub spawn_faults : spawns.spawn_faults ≤ 2 ^ 64 - 1
 
 pub record SpawnsLater (earlier later : SpawnCounts) : Type 0 where
   pub running : earlier.running ≤ later.running

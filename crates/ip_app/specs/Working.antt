@@ -2,9 +2,11 @@
 --     worked_status worked      the status of what the collector answered.      WorksAs      it is that, over what was told
 --     CountsWorking status old new      what is counted then
 --     RunsJob job old new status      from what is told when it begins to what is told when it returns
-use Rattle.std.specs.Prelude.{◌≡◌, ◌⊎◌, Bool, IsTrue, Result, Ok, Err, IsErrOf}
+--     NamesWorker words      the word behind the program's name is that of such a call
+use Rattle.std.specs.Prelude.{◌≡◌, ◌⊎◌, Bool, IsTrue, List, Some, Result, Ok, Err, IsErrOf, codes, slice_get}
 use Rattle.ip_ground.specs.Counts.{Noted, Rose, FileFault, RemoveFault, DamageFound}
 use Rattle.ip_ground.specs.Told.{Told, NoFile, ChangesOnly}
+use Rattle.ip_spec.specs.Path.{Bytes}
 use Rattle.ip_spec.specs.TreeAt.{Records}
 use Rattle.ip_spawn.specs.declared.job.Job.{Job}
 use Rattle.ip_worker.specs.declared.fault.WorkFault.{WorkFault}
@@ -53,3 +55,6 @@ pub record RunsJob (job : Job) (old new : Outside) (status : Status) : Type 0 wh
   -- where no fault is counted, the job's files are whole and its attempt is not the live one, it is done, or memory was wanting
   pub complete : IsTrue old.ground_tells → (records : Records) → AreWhole old.told.held job records → NothingLent old.told → ¬ IsServed old.told.held job.attempt
       → ¬ Rose old.counts.file_faults new.counts.file_faults → ¬ Rose old.counts.remove_faults new.counts.remove_faults → (status ≡ Status.Done) ⊎ (status ≡ Status.Memory)
+
+abbrev pub NamesWorker : List Bytes → Type 0
+NamesWorker words = slice_get words 1 ≡ Some (codes "worker")

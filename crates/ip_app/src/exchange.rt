@@ -9,7 +9,7 @@ ghost use Rattle.ip_session.specs.declared.session.TheConstants.{REPLY_ROOM};
 ghost use Rattle.ip_session.specs.Session.{IsServing, state_in};
 ghost use Rattle.ip_app.specs.Exchanging.{ended_status, Works, Replied, CutsShort};
 ghost use Rattle.ip_app.specs.Outside.{outside_of};
-ghost use Rattle.ip_app.specs.Turns.{turn_counts};
+ghost use Rattle.ip_app.specs.Turns.{turn_counts, AreCounts};
 
 use crate::statuses::Status;
 use crate::turn_log::{Log, Turn, turn_counts};
@@ -51,12 +51,12 @@ pub fn exchange<G: Ground, P: Spawner, D: Decides, L: Log>(
     requires small { counts.old.file_faults ≤ 2 ^ 64 - 1 }
     requires removals { counts.old.remove_faults ≤ 2 ^ 64 - 1 }
     requires damages { (G.counts_of ground.old).damages ≤ 2 ^ 64 - 1 }
-    requires running { counts.old.spawner.running ≤ 2 ^ 64 - 1 }
+    requires counters { AreCounts (P.counts_of spawner.old) }
     requires tables { IsServing session.old }
     requires child { P.held spawner.old ≡ child_of session.old.store.held.collection }
     ensures room { vec_capacity text.old ≤ vec_capacity text.new }
     ensures removals { counts.new.remove_faults ≤ 2 ^ 64 - 1 }
-    ensures running { counts.new.spawner.running ≤ 2 ^ 64 - 1 }
+    ensures counters { AreCounts (P.counts_of spawner.new) }
     ensures sayable { (G.counts_of ground.new).say_faults ≤ 2 ^ 64 - 1 }
     ensures child { P.held spawner.new ≡ child_of session.new.store.held.collection }
     // Whatever a source tells meanwhile.

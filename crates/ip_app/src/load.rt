@@ -16,7 +16,7 @@ ghost use Rattle.ip_app.specs.Exchanging.{Works, Replied, CutsShort};
 ghost use Rattle.ip_app.specs.Loading.{Loads, LoadsWhereAllIsWell};
 ghost use Rattle.ip_app.specs.Loaded.{IsLoadRoom, FinishesLoad};
 ghost use Rattle.ip_app.specs.Outside.{outside_of};
-ghost use Rattle.ip_app.specs.Turns.{turn_counts};
+ghost use Rattle.ip_app.specs.Turns.{turn_counts, AreCounts};
 ghost use Rattle.ip_summary.specs.Tally.{Tallies};
 
 use crate::exchange::exchange;
@@ -71,12 +71,12 @@ impl LoadRoom {
         requires small { counts.old.file_faults ≤ 2 ^ 64 - 1 }
         requires removals { counts.old.remove_faults ≤ 2 ^ 64 - 1 }
         requires damages { (G.counts_of ground.old).damages ≤ 2 ^ 64 - 1 }
-        requires running { counts.old.spawner.running ≤ 2 ^ 64 - 1 }
+        requires counters { AreCounts (P.counts_of spawner.old) }
         requires tables { IsServing session.old }
         requires child { P.held spawner.old ≡ child_of session.old.store.held.collection }
         ensures roomy { IsLoadRoom self.new }
         ensures removals { counts.new.remove_faults ≤ 2 ^ 64 - 1 }
-        ensures running { counts.new.spawner.running ≤ 2 ^ 64 - 1 }
+        ensures counters { AreCounts (P.counts_of spawner.new) }
         ensures child { P.held spawner.new ≡ child_of session.new.store.held.collection }
         ensures state { state.new ≡ (load_line state.old number).1 }
         ensures tallies { OnOk result ((replies : List Reply) (reply : Reply) → self.new.text.items ≡ reply_text reply → length replies < 2 ^ 64 - 1 → Tallies self.old.summary replies → Tallies self.new.summary (replies ++ reply ∷ [])) }
@@ -124,10 +124,11 @@ impl LoadRoom {
         requires small { counts.old.file_faults ≤ 2 ^ 64 - 1 }
         requires removals { counts.old.remove_faults ≤ 2 ^ 64 - 1 }
         requires damages { (G.counts_of ground.old).damages ≤ 2 ^ 64 - 1 }
-        requires running { counts.old.spawner.running ≤ 2 ^ 64 - 1 }
+        requires counters { AreCounts (P.counts_of spawner.old) }
         requires tables { IsServing session.old }
         requires child { P.held spawner.old ≡ child_of session.old.store.held.collection }
         requires tallied { (replies : List Reply) × Tallies self.summary replies }
+        ensures counters { AreCounts (P.counts_of spawner.new) }
         ensures child { P.held spawner.new ≡ child_of session.new.store.held.collection }
         ensures finishes { (source_tells : Bool) (left : Bytes) (read_faults : ℕ) → let told = outside_of folder.now source_tells left read_faults G.tells G.told G.counts_of P.tells P.told P.held P.counts_of L.tells L.turns in
             (known : Bool) (r : Repository) (v : View) → (IsTrue known → Works (D.rule rules.now) G.tells (G.told ground.old) session.old r v) →

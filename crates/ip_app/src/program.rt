@@ -1,4 +1,8 @@
 // The program: its words, its folder, standard input and output.
+ghost use Rattle.std.specs.Prelude.{◌↔◌, IsTrue};
+ghost use Rattle.ip_words.specs.Words.{texts_of};
+ghost use Rattle.ip_app.specs.Working.{NamesWorker};
+
 use crate::calls::run;
 use crate::rules::ProgramRules;
 use crate::statuses::Status;
@@ -36,7 +40,9 @@ fn program_in(alloc: Global, words: &[String]) -> Result<String, AllocError> {
 }
 
 // The folder of a call. The child of a collection works beside the process that started it, which holds the lock.
-fn folder_for<'a>(rt: &'a HostRuntime, words: &[String]) -> Folder<&'a HostRuntime> {
+fn folder_for<'a>(rt: &'a HostRuntime, words: &[String]) -> Folder<&'a HostRuntime>
+    ensures beside { IsTrue result.is_beside ↔ NamesWorker (texts_of words.now) }
+{
     match words.get(1) {
         Some(word) if word.as_str() == "worker" => Folder::beside(rt, rt.alloc()),
         _ => Folder::new(rt, rt.alloc()),

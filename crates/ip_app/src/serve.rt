@@ -9,7 +9,7 @@ ghost use Rattle.ip_spec.specs.View.{View};
 ghost use Rattle.ip_held.specs.Collecting.{child_of};
 ghost use Rattle.ip_opens.specs.Opening.{RecoversOnceOpen};
 ghost use Rattle.ip_app.specs.Outside.{outside, IsBound};
-ghost use Rattle.ip_app.specs.Turns.{turn_counts};
+ghost use Rattle.ip_app.specs.Turns.{turn_counts, AreCounts};
 ghost use Rattle.ip_app.specs.Serving.{CountsOf, Works, TurnedIn, Stops};
 ghost use Rattle.ip_app.specs.Run.{opening_status, CouldNotOpen, OpensAs, Serves, EndsWhereAllIsWell, EndsAsBytes};
 ghost use Rattle.ip_session.specs.Session.{IsServing};
@@ -71,12 +71,12 @@ impl LineRoom {
         requires small { counts.old.file_faults ≤ 2 ^ 64 - 1 }
         requires removals { counts.old.remove_faults ≤ 2 ^ 64 - 1 }
         requires damages { (G.counts_of ground.old).damages ≤ 2 ^ 64 - 1 }
-        requires running { counts.old.spawner.running ≤ 2 ^ 64 - 1 }
+        requires counters { AreCounts (P.counts_of spawner.old) }
         requires tables { IsServing session.old }
         requires child { P.held spawner.old ≡ child_of session.old.store.held.collection }
         ensures roomy { IsRoomy self.new }
         ensures removals { counts.new.remove_faults ≤ 2 ^ 64 - 1 }
-        ensures running { counts.new.spawner.running ≤ 2 ^ 64 - 1 }
+        ensures counters { AreCounts (P.counts_of spawner.new) }
         ensures child { P.held spawner.new ≡ child_of session.new.store.held.collection }
         ensures turned { let told = outside folder.now S.tells S.left S.read_faults G.tells G.told G.counts_of P.tells P.told P.held P.counts_of L.tells L.turns in
             (known : Bool) (r : Repository) (v : View) → (IsTrue known → Works (D.rule rules.now) G.tells (G.told ground.old) session.old r v) →

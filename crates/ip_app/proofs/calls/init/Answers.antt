@@ -36,9 +36,12 @@ init_row chunk made s tells old mid new e only makes = subst (λ (t : Status). I
     }
     by_answer (Err InitFault.Existing) m = λ told. record {
       gate_open = subst (λ bytes. IsSome (live_index bytes)) (same_control old mid (only told)) ((m told).existing refl);
-      only = only_on old mid new NoFile (only told) ((m told).unchanged refl);
+      only = only_on old mid new NoFile (only told) ((m told).unchanged ((m told).existing refl));
     }
-    by_answer (Err InitFault.Ground) m = tt
+    by_answer (Err InitFault.Ground) m = λ told live. only_on old mid new NoFile (only told) ((m told).unchanged (subst (λ bytes. IsSome (live_index bytes)) (sym (same_control old mid (only told))) live))
+
+pub returns-then-is_err-clause-row : goal.returns-then-is_err-clause-row
+returns-then-is_err-clause-row g c told live = (c.attach.ensures.does told).only
 
 pub returns-clause-row : goal.returns-clause-row
 returns-clause-row g c = init_row c.args.chunk c.init.result _ _ _ _ _ c.init_status.ensures (λ told. (c.attach.ensures.does told).only) c.init.ensures.does

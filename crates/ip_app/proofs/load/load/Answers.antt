@@ -4,7 +4,6 @@ use Rattle.std.proofs.Math.Nat.{le_refl}
 use Rattle.ip_ground.specs.Counts.{Noted, as_nothing}
 use Rattle.ip_ground.specs.declared.names.GroundCounts.{GroundCounts}
 use Rattle.ip_image.specs.declared.counts.TurnCounts.{TurnCounts}
-use Rattle.ip_spawn.specs.declared.spawner.SpawnCounts.{SpawnCounts}
 use Rattle.ip_spec.specs.Merge.{Rule}
 use Rattle.ip_spec.specs.View.{no_view}
 use Rattle.ip_store.specs.declared.store.Store.{Store}
@@ -14,7 +13,7 @@ use Rattle.ip_merge.specs.Rules.{IsDecisive}
 use Rattle.ip_session.proofs.Beginning.{begins_working}
 use Rattle.ip_app.specs.declared.statuses.Status.TheVariants as status
 use Rattle.ip_app.specs.Loading.{replies_in}
-use Rattle.ip_app.specs.Turns.{turn_of}
+use Rattle.ip_app.specs.Turns.{turn_of, AreCounts}
 use Rattle.ip_app.proofs.Counting.{spawns_itself, bound_counts, falls_bound, falls_same, falls_of}
 use Rattle.ip_app.proofs.LivePair.{live_in, known_or_not, with_flag}
 use Rattle.ip_app.proofs.LoadLemmas.{loaded_first, loaded_more, script_here, loads_unopened, loads_cut, loads_said, load_ends}
@@ -44,10 +43,13 @@ loop-done-init g c =
     let child = c.requires.child ∙ sym (ap child_of idle) in
     let removals : c.counts.result.remove_faults ≤ 2 ^ 64 - 1 = search rules in
     let running : c.counts-2.result.running ≤ 2 ^ 64 - 1 = search rules in
+    let waits : c.counts-2.result.waits ≤ 2 ^ 64 - 1 = search rules in
+    let reaps : c.counts-2.result.reaps ≤ 2 ^ 64 - 1 = search rules in
+    let faults : c.counts-2.result.spawn_faults ≤ 2 ^ 64 - 1 = search rules in
     record {
       roomy = c.in-Ok-new.ensures.roomy;
       removals = subst (λ (n : ℕ). n ≤ 2 ^ 64 - 1) (sym (ap (λ (t : TurnCounts). t.remove_faults) (c.turn_counts-counts.ensures ∙ ap₂ turn_of c.counts.ensures c.counts-2.ensures))) (subst (λ (n : GroundCounts). n.remove_faults ≤ 2 ^ 64 - 1) c.counts.ensures removals);
-      running = subst (λ (n : ℕ). n ≤ 2 ^ 64 - 1) (sym (ap (λ (t : TurnCounts). t.spawner.running) (c.turn_counts-counts.ensures ∙ ap₂ turn_of c.counts.ensures c.counts-2.ensures))) (subst (λ (n : SpawnCounts). n.running ≤ 2 ^ 64 - 1) c.counts-2.ensures running);
+      counters = subst AreCounts c.counts-2.ensures (record { running = running; waits = waits; reaps = reaps; spawn_faults = faults });
       child = child;
       loaded = λ source_tells left read_faults decisive by_rule. loaded_first _ decisive by_rule c.args.seed _ _ c.turn_counts-counts.result c.new-session.result c.in-Ok-new.room.summary opened.repository no_view refl (subst (λ (store : Store). store.held.unswept ≡ unswept_in store.held.slot) (sym c.new-session.ensures.store) opened.unswept) (with_flag _ decisive (known_or_not g.G.Ground.tells _ (λ told owns. live_in _ _ (opened.stands told owns)))) (opened.repository, c.new-session.ensures.is_in opened.repository opened.tables) (c.new-session.ensures.state c.in-Ok.ensures.idle opened.repository)
           (λ tells. begins_working _ c.new-session.result _ opened.repository (ap (λ (store : Store). store.held) c.new-session.ensures.store) c.new-session.ensures.lawful (opened.holds tells.0 tells.1)) (λ tells clear. subst (λ (store : Store). IsCleared store.held (g.G.Ground.told c.open_in.new.ground)) (sym c.new-session.ensures.store) (opened.clear tells.0 tells.1 clear)) (λ tells. opened.stands tells.0 tells.1) opened.opening (λ tells. opened.over tells.0 tells.1) (c.turn_counts-counts.ensures ∙ ap₂ turn_of c.counts.ensures c.counts-2.ensures) c.in-Ok.ensures.no_fault (record { spawned = refl; held = refl; spawns = refl }) idle c.requires.child refl
@@ -66,7 +68,7 @@ turn-requires g c =
       small = subst (λ (n : ℕ). n ≤ 2 ^ 64 - 1) (sym (ap (λ (t : TurnCounts). t.file_faults) loaded.ran.trace.counts_now ∙ loaded.no_fault.file_faults)) (subst (λ (n : GroundCounts). n.file_faults ≤ 2 ^ 64 - 1) c.counts.ensures told);
       removals = c.loop-done.invariant.removals;
       damages = subst (λ (n : ℕ). n ≤ 2 ^ 64 - 1) (sym loaded.no_fault.damages) (subst (λ (n : GroundCounts). n.damages ≤ 2 ^ 64 - 1) c.counts.ensures harms);
-      running = c.loop-done.invariant.running;
+      counters = c.loop-done.invariant.counters;
       tables = loaded.ran.serving;
       child = c.loop-done.invariant.child;
     }
@@ -78,7 +80,7 @@ returns-in-Err-turn-clause-loads g c source_tells left read_faults decisive by_r
     let less : c.loop-done.done < c.args.count = c.loop-done-test.true in
     let here = script_here _ decisive _ _ _ _ _ _ _ _ loaded c.args.count less in
     loads_cut _ decisive _ _ _ _ _ _ _ _ loaded by_rule c.args.count c.in-Err-turn.status _ _ _ (c.in-Err-turn.ensures.cut source_tells left read_faults loaded.known loaded.repository loaded.view (λ is. ((loaded.ran.trace.tells is).0, loaded.ran.working is, loaded.ran.trace.is_decisive is))) refl here.0 here.1
-    (g.P.Spawner.told c.let_go.new.spawner) (g.P.Spawner.held c.let_go.new.spawner) (g.P.Spawner.counts_of c.let_go.new.spawner) (record { ends = gone.0; few = gone.1; told = gone.2; none = c.let_go.ensures.none_held; gone = c.let_go.ensures.counts })
+    (g.P.Spawner.told c.let_go.new.spawner) (g.P.Spawner.held c.let_go.new.spawner) (g.P.Spawner.counts_of c.let_go.new.spawner) (record { ends = gone.0; few = gone.1; told = gone.2; none = c.let_go.ensures.none_held; counts = c.turn.ensures.counters; gone = c.let_go.ensures.counts })
 
 pub loop-done-preserved : goal.loop-done-preserved
 loop-done-preserved g c =
@@ -87,7 +89,7 @@ loop-done-preserved g c =
     record {
       roomy = c.turn.ensures.roomy;
       removals = c.turn.ensures.removals;
-      running = c.turn.ensures.running;
+      counters = c.turn.ensures.counters;
       child = c.turn.ensures.child;
       loaded = λ source_tells left read_faults decisive by_rule.
           let loaded = c.loop-done.invariant.loaded source_tells left read_faults decisive by_rule in
@@ -107,7 +109,7 @@ finish-status-requires g c =
       small = subst (λ (n : ℕ). n ≤ 2 ^ 64 - 1) (sym (ap (λ (t : TurnCounts). t.file_faults) loaded.ran.trace.counts_now ∙ loaded.no_fault.file_faults)) (subst (λ (n : GroundCounts). n.file_faults ≤ 2 ^ 64 - 1) c.counts.ensures told);
       removals = c.loop-done.invariant.removals;
       damages = subst (λ (n : ℕ). n ≤ 2 ^ 64 - 1) (sym loaded.no_fault.damages) (subst (λ (n : GroundCounts). n.damages ≤ 2 ^ 64 - 1) c.counts.ensures harms);
-      running = c.loop-done.invariant.running;
+      counters = c.loop-done.invariant.counters;
       tables = loaded.ran.serving;
       child = c.loop-done.invariant.child;
       tallied = (replies_in loaded.exchanges, loaded.tallies);
@@ -120,7 +122,7 @@ returns-clause-loads g c source_tells left read_faults decisive by_rule =
     let all : c.loop-done.done ≡ c.args.count = omega arith in
     loads_said _ decisive _ _ _ _ _ _ _ _ loaded by_rule c.args.count c.finish-status.result _ _ c.finish-status.new.session
     (c.finish-status.ensures.finishes source_tells left read_faults loaded.known loaded.repository loaded.view (λ is. ((loaded.ran.trace.tells is).0, loaded.ran.working is, loaded.ran.trace.is_decisive is)) (replies_in loaded.exchanges) loaded.tallies) all refl
-    (g.P.Spawner.told c.let_go-2.new.spawner) (g.P.Spawner.held c.let_go-2.new.spawner) (g.P.Spawner.counts_of c.let_go-2.new.spawner) (record { ends = gone.0; few = gone.1; told = gone.2; none = c.let_go-2.ensures.none_held; gone = c.let_go-2.ensures.counts })
+    (g.P.Spawner.told c.let_go-2.new.spawner) (g.P.Spawner.held c.let_go-2.new.spawner) (g.P.Spawner.counts_of c.let_go-2.new.spawner) (record { ends = gone.0; few = gone.1; told = gone.2; none = c.let_go-2.ensures.none_held; counts = c.finish-status.ensures.counters; gone = c.let_go-2.ensures.counts })
 
 pub returns-in-Err-clause-complete : goal.returns-in-Err-clause-complete
 returns-in-Err-clause-complete g c decisive = let done = returns-in-Err-clause-loads g c false [] 0 true (λ is. decisive) in load_ends true refl _ _ _ done.run.row done.run.notes.counted

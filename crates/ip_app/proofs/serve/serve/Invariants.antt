@@ -5,6 +5,7 @@ use Rattle.ip_app.specs.Outside.{outside}
 use Rattle.ip_app.specs.Serving.{Served}
 use Rattle.ip_app.specs.Rooms.{IsRoomy}
 use Rattle.ip_app.specs.Pending.{pending}
+use Rattle.ip_app.specs.Turns.{AreCounts}
 use Rattle.ip_app.proofs.serve.serve.Given as goal
 
 abbrev pub invariant-lines : goal.invariant-lines
@@ -13,7 +14,7 @@ invariant-lines g l =
     record {
       roomy : IsRoomy l.room;
       removals : l.counts.remove_faults ≤ 2 ^ 64 - 1;
-      running : l.counts.spawner.running ≤ 2 ^ 64 - 1;
+      counters : AreCounts (g.P.Spawner.counts_of l.spawner);
       child : g.P.Spawner.held l.spawner ≡ child_of l.session.store.held.collection;
       served : (decisive : Bool) → (IsTrue decisive → IsDecisive (g.D.Decides.rule l.fn.rules)) → Served (g.D.Decides.rule l.fn.rules) decisive (told l.fn.source l.fn.ground l.fn.spawner l.fn.log) (told l.source l.ground l.spawner l.log) l.room.lines l.counts l.session;
     }

@@ -41,7 +41,7 @@ returns-in-Ok-clause-turned g c known r v works =
     let h = c.in_default-exchange.ensures.replied g.S.Source.tells (g.S.Source.left c.args.source.now) (g.S.Source.read_faults c.args.source.now) known r v works in
     turned_in _ known _ _ _ _ _ _ _ c.args.session.now c.exchange.new.session r v h c.deref-2.ensures.value line c.deref.ensures.value
     (g.S.Source.left c.next_line.new.source) (g.S.Source.read_faults c.next_line.new.source) (g.G.Ground.told c.say.new.self) (g.G.Ground.counts_of c.say.new.self) c.args.self.now.lines c.next_line.new.self
-    (took_of _ _ _ _ line c.in_default.ensures.ok c.in_default.ensures.count) c.in_default.ensures.still (λ is. c.in-Ok.ensures.does (works is).0) c.in-Ok.ensures.counts
+    (took_of _ _ _ _ line c.in_default.ensures.ok c.in_default.ensures.count) c.in_default.ensures.still (λ is. (works is).1.holds.kept) (λ is. g.met.G.Ground.possible c.exchange.new.ground (works is).0) (λ is. c.in-Ok.ensures.does (works is).0) c.in-Ok.ensures.counts
 
 pub returns-in-Err-say-clause-stops : goal.returns-in-Err-say-clause-stops
 returns-in-Err-say-clause-stops g c known r v works =
@@ -49,4 +49,4 @@ returns-in-Err-say-clause-stops g c known r v works =
     let h = c.in_default-exchange.ensures.replied g.S.Source.tells (g.S.Source.left c.args.source.now) (g.S.Source.read_faults c.args.source.now) known r v works in
     left_unsaid _ known _ _ _ _ _ _ _ c.args.session.now c.exchange.new.session r v h c.deref-2.ensures.value line c.deref.ensures.value
     (g.S.Source.left c.next_line.new.source) (g.S.Source.read_faults c.next_line.new.source) (g.G.Ground.told c.say.new.self) (g.G.Ground.counts_of c.say.new.self) c.args.self.now.lines c.next_line.new.self
-    (took_of _ _ _ _ line c.in_default.ensures.ok c.in_default.ensures.count) c.in_default.ensures.still _ (λ is. c.in-Err-say.ensures.does (works is).0) c.exchange.ensures.sayable c.in-Err-say.ensures.counts
+    (took_of _ _ _ _ line c.in_default.ensures.ok c.in_default.ensures.count) c.in_default.ensures.still (λ is. (works is).1.holds.kept) (λ is. g.met.G.Ground.possible c.exchange.new.ground (works is).0) _ (λ is. c.in-Err-say.ensures.does (works is).0) c.exchange.ensures.sayable c.in-Err-say.ensures.counts
