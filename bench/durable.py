@@ -1,16 +1,18 @@
 #!/usr/bin/env python3
-"""Durable commits, against a bare loop of the same writes and syncs in the same folder.
+"""Durable commits, against a bare loop of the same writes and syncs in the same folder, and once more on a file system in memory.
 
-    bench/durable.py [PROGRAM] [--folder DIR] [--rounds N] [--commits N]
+    bench/durable.py [PROGRAM] [--folder DIR] [--rounds N] [--commits N] [--keys N]
 
-A commit is of one small value that changed: the lines `set` and `commit` are given to a running `ipstore serve`, each
-once the reply before it was read. The bare loop writes as many bytes, in the same pieces, at the same places of two files
+A commit is of one small value that changed, in a tree of one key or of as many as `--keys` says: the lines `set` and `commit` are
+given to a running `ipstore serve`, each once the reply before it was read. The bare loop writes as many bytes, in the same pieces, at the same places of two files
 of its own, which it opens once, and syncs as often. Both take turns, some commits each; told are the medians of
 these turns. Beside them stand sqlite, with its write-ahead log and with its rollback journal, and git, where they are
-there. A time of a sync is one of the folder's disk: name a folder on the disk that matters.
+there. A time of a sync is one of the folder's disk: name a folder on the disk that matters. On a file system in memory (/dev/shm) a sync
+takes nothing, so that the processor alone counts; there the processor's time of `serve` is told too.
 """
 
 import os
+import random
 import shutil
 import statistics
 import subprocess
@@ -24,6 +26,9 @@ try:
 except ImportError:
     sqlite3 = None
 
+# Where a file system is in memory.
+MEMORY = "/dev/shm"
+
 # The first git whose commits can be told to sync all that they write.
 SYNCING_GIT = (2, 36)
 
@@ -31,13 +36,17 @@ SYNCING_GIT = (2, 36)
 class StoreCommits:
     """Commits through a running `ipstore serve`."""
 
-    def __init__(self, program, folder):
+    def __init__(self, program, folder, keys):
         common.init(program, folder)
         self.folder = folder
         self.serve = common.Serve(program, folder)
+        self.keys = keys
+        self.draw = random.Random(0)
+        for key in range(keys):
+            common.must(self.serve.ask(f"set k{key} {key:016x}"), "ok")
 
     def commit(self, number):
-        common.must(self.serve.ask(f"set k {number:016x}"), "ok")
+        common.must(self.serve.ask(f"set k{self.draw.randrange(self.keys)} {number:016x}"), "ok")
         common.must(self.serve.ask(f"commit main {number} a m"), "committed ")
 
     def ask_twice(self, _):
@@ -50,6 +59,12 @@ class StoreCommits:
         before = common.live_slot(self.folder).end
         self.commit(0)
         return common.live_slot(self.folder).end - before
+
+    def processor(self):
+        """The processor's time of `serve` so far, in seconds: its own, and that of the system's calls."""
+        with open(f"/proc/{self.serve.process.pid}/stat") as file:
+            fields = file.read().rpartition(")")[2].split()
+        return [int(ticks) / os.sysconf("SC_CLK_TCK") for ticks in fields[11:13]]
 
     def close(self):
         self.serve.end()
@@ -164,22 +179,42 @@ def take_turns(acts, rounds, count):
     return [statistics.median(its) for its in times]
 
 
-def measure_store(program, base, rounds, count):
+def measure_store(program, base, rounds, count, keys, with_processor=False):
     """The rows of the store and of the bare loop, and the time of the loop."""
-    store = StoreCommits(program, common.new_folder(base, "store"))
+    store = StoreCommits(program, common.new_folder(base, "store"), keys)
     store.commit(2 ** 63)
     batch = store.batch()
     bare = BareLoop(common.new_folder(base, "bare"), batch)
     bare.commit(0)
     mine, limit = take_turns([store.commit, bare.commit], rounds, count)
     (pipe,) = take_turns([store.ask_twice], rounds, count)
-    store.close()
-    bare.close()
+    of = f" of {keys} keys" if keys > 1 else ""
     rows = [
-        Row(f"a commit through `serve` ({batch} bytes appended), over the bare loop", mine, "us", limit),
+        Row(f"a commit{of} through `serve` ({batch} bytes appended), over the bare loop", mine, "us", limit),
         Row("of this, two lines and replies through the pipes", pipe, "us"),
     ]
+    if with_processor:
+        before = store.processor()
+        commits = max(1000, rounds * count)
+        turn(store.commit, 2 ** 62, commits)
+        own, system = [(b - a) / commits * 1e6 for a, b in zip(before, store.processor())]
+        rows += [
+            Row("of this, the processor's time of `serve`, its own", own, "us"),
+            Row("of this, the processor's time of `serve` in the system's calls", system, "us"),
+        ]
+    store.close()
+    bare.close()
     return rows, limit
+
+
+def measure_in_memory(program, rounds, count, keys):
+    """The rows on a file system in memory, where there is one."""
+    if common.file_system(MEMORY) != "tmpfs":
+        print(f"a file system in memory is left out: {MEMORY} is none")
+        return []
+    with common.fresh_folder(MEMORY) as base:
+        rows, _ = measure_store(program, base, rounds, count, keys, with_processor=True)
+    return [row._replace(what=f"in memory: {row.what}") for row in rows]
 
 
 def others(base):
@@ -210,21 +245,24 @@ def measure_others(base, rounds, count, limit):
     return rows
 
 
-def measure(program, folder=None, rounds=21, count=20):
+def measure(program, folder=None, rounds=21, count=20, keys=1000):
     """The rows of all."""
     with common.fresh_folder(folder) as base:
         print(f"durable commits in {base} ({common.file_system(base)}), {rounds} turns of {count}")
-        rows, limit = measure_store(program, base, rounds, count)
+        rows, limit = measure_store(program, base, rounds, count, keys)
         os.sync()
-        return rows + measure_others(base, rounds, count, limit)
+        rows += measure_others(base, rounds, count, limit)
+    return rows + measure_in_memory(program, rounds, count, keys)
 
 
 def main():
     parser = common.options(__doc__)
     parser.add_argument("--rounds", type=int, default=21, help="turns of each (default: %(default)s)")
     parser.add_argument("--commits", type=int, default=20, help="commits of one turn (default: %(default)s)")
+    parser.add_argument("--keys", type=int, default=1000, help="keys of the tree (default: %(default)s)")
     given = common.parsed(parser)
-    common.show("one durable commit", measure(given.program, given.folder, given.rounds, given.commits))
+    rows = measure(given.program, given.folder, given.rounds, given.commits, given.keys)
+    common.show("one durable commit", rows)
 
 
 if __name__ == "__main__":

@@ -2,16 +2,21 @@
 """Opening a store, against reading and hashing the same bytes.
 
     bench/opening.py [PROGRAM] [--folder DIR] [--commits N] [--sets N] [--value BYTES] [--chunk BYTES] [--rounds N] [--no-git]
+    bench/opening.py [PROGRAM] --small ..
 
 The store is made by `serve` itself: each commit sets some paths anew. Timed is `ipstore serve DIR` on an empty script,
 from its start to its end: it reads each record once, hashes it and tests it. The limit of the same run is one loop of Python
 that reads the same chunks, each at once, and hashes them by SHA-256, in this process; both take turns. The start of the program
 alone is told by a store without commits. Beside them stand `git fsck --full` and `git rev-list --objects --all`, on the same
-history as git packs it. All files were read before, so the system has them in memory.
+history as git packs it. All files were read before, so the system has them in memory. `--small` is 5000 commits of one value of 8
+bytes each; and of each size the processor's time is told beside that of `sha256sum` over the same files.
 """
 
 import hashlib
+import os
 import random
+import resource
+import shutil
 import statistics
 import subprocess
 import time
@@ -53,6 +58,20 @@ def seconds(act):
     start = time.perf_counter()
     act()
     return time.perf_counter() - start
+
+
+def processor(act):
+    """The processor's time of the programs that a call runs, in seconds."""
+    before = resource.getrusage(resource.RUSAGE_CHILDREN)
+    act()
+    after = resource.getrusage(resource.RUSAGE_CHILDREN)
+    return after.ru_utime + after.ru_stime - before.ru_utime - before.ru_stime
+
+
+def sum_chunks(folder):
+    """`sha256sum` over the chunks of a store."""
+    chunks = sorted(os.path.join(folder, name) for name in os.listdir(folder) if name.startswith("chunk."))
+    subprocess.run(["sha256sum", *chunks], stdout=subprocess.DEVNULL, check=True)
 
 
 def open_store(program, folder):
@@ -97,12 +116,12 @@ def git_acts(base, commits):
     ]
 
 
-def take_turns(acts, rounds):
+def take_turns(acts, rounds, of=seconds):
     """The median milliseconds of each; the first turn only warms."""
     times = [[] for _ in acts]
     for turn in range(rounds + 1):
         for act, its in zip(acts, times):
-            its.append(seconds(act) * 1e3)
+            its.append(of(act) * 1e3)
     return [statistics.median(its[1:]) for its in times]
 
 
@@ -122,6 +141,9 @@ def measure(program, folder=None, commits=2000, sets=8, value=1000, rounds=7, wi
             Row("opening, over reading and hashing its bytes", opened, "ms", limit),
             Row("of this, start and end of the program", alone, "ms"),
         ]
+        if shutil.which("sha256sum"):
+            own, sums = take_turns([lambda: open_store(program, store), lambda: sum_chunks(store)], rounds, processor)
+            rows.append(Row("opening, the processor's time, over that of `sha256sum`", own, "ms", sums))
         if with_git and durable.git_version() is not None:
             acts = git_acts(base, history(commits, sets, value))
             times = take_turns([act for _, act in acts], rounds)
@@ -138,8 +160,11 @@ def main():
     parser.add_argument("--value", type=int, default=1000, help="bytes that each of them gets (default: %(default)s)")
     parser.add_argument("--chunk", type=int, help="bytes of a chunk (default: that of init)")
     parser.add_argument("--rounds", type=int, default=7, help="turns of each (default: %(default)s)")
+    parser.add_argument("--small", action="store_true", help="5000 commits of one value of 8 bytes")
     parser.add_argument("--no-git", action="store_true", help="without git beside")
     given = common.parsed(parser)
+    if given.small:
+        given.commits, given.sets, given.value = 5000, 1, 8
     rows = measure(
         given.program, given.folder, given.commits, given.sets, given.value, given.rounds, not given.no_git,
         given.chunk,
