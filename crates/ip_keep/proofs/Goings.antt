@@ -5,7 +5,7 @@
 --     blames_as, blamed_as, breaks_as      of a fault, whatever an answer would have been
 use Rattle.std.proofs.Common.{◌≡◌, ◌⊎◌, inl, inr, ℕ, ◌+◌, ◌<◌, ◌≤◌, List, [], ◌∷◌, ◌++◌, refl, sym, ap, subst, ◌∙◌, Bool, true, false, length, arith}
 use Rattle.std.proofs.lemmas.Bool.{false≢true}
-use Rattle.std.specs.Prelude.{Contains, Option, Some, IsTrue, Result, Err, IsErrOf}
+use Rattle.std.specs.Prelude.{Contains, Option, Some, IsTrue, IsSomeAnd, Result, Err, IsErrOf}
 use Rattle.std.specs.List.Sorted.{IsStrictlyIncreasing}
 use Rattle.std.proofs.lemmas.Option.{same_Some}
 use Rattle.ip_ground.specs.Told.{Told, NoFile, ChangesOnly}
@@ -25,7 +25,7 @@ use Rattle.ip_keep.specs.declared.fault.KeepFault.{KeepFault}
 use Rattle.ip_keep.specs.Entering.{are_below, refs_of, Gains, GainsSome}
 use Rattle.ip_keep.specs.Going.{Goes, Blameless, Blames, Breaks}
 use Rattle.ip_keep.specs.KeepView.{KeepView}
-use Rattle.ip_keep.specs.Keeping.{IsKeep, IsKeeping, SameWork, lowest}
+use Rattle.ip_keep.specs.Keeping.{IsKeep, IsKeeping, LeadsDown, SameWork, behind, lowest}
 use Rattle.ip_keep.specs.Runs.{AreHeld}
 use Rattle.ip_keep.specs.Whole.{AreRecords}
 use Rattle.ip_keep.proofs.Ascending.{up, increasing, up_front, last_is}
@@ -48,12 +48,16 @@ other_whole : (a : Told) (k m : KeepView) (records : Records) → SameWork k m �
 other_whole a k m records work whole =
     subst (λ (n : ℕ). AreRecords a.held m.space n records) (sym work.horizon) (subst (λ (s : SpaceView). AreRecords a.held s k.horizon records) (sym work.space) whole)
 
+-- what is read as a record stays so
+same_records : (a b : Told) → ChangesOnly NoFile a b → (space now : SpaceView) → now ≡ space → IsReadable a space → records_of b now ≡ records_of a space
+same_records a b only space now same readable i at = (ap (λ (s : SpaceView). records_of b s at) same ∙ (only_looks a b only space).records readable at) i
+
 pub same_work : (k : KeepView) → SameWork k k
 same_work k = record { space = refl; horizon = refl }
 
 module _ (tells : Bool) where
   pub goes_nowhere : (a : Told) (k : KeepView) → IsKeep k → Goes tells a a k k
-  goes_nowhere a k keep = record { keep = keep; work = same_work k; only = λ t. only_nowhere a NoFile; keeping = λ t readable records whole keeping. keeping; held = λ t readable held. held }
+  goes_nowhere a k keep = record { keep = keep; work = same_work k; only = λ t. only_nowhere a NoFile; keeping = λ t readable records whole keeping. keeping; held = λ t readable held. held; down = λ t readable down. down }
 
   pub goes_on : (a b c : Told) (k m n : KeepView) → Goes tells a b k m → Goes tells b c m n → Goes tells a c k n
   goes_on a b c k m n one two = record {
@@ -67,6 +71,11 @@ module _ (tells : Bool) where
         subst (λ (s : SpaceView). AreHeld (byte_at c s) n.kept) one.work.space
         (two.held t (subst (IsReadable b) (sym one.work.space) (readable_stays a b (one.only t) k.space readable))
         (subst (λ (s : SpaceView). AreHeld (byte_at b s) m.kept) (sym one.work.space) (one.held t readable held)));
+    down = λ t readable down.
+        let same = same_records a b (one.only t) k.space m.space one.work.space readable in
+        subst (λ (f : ℕ → Option Record). LeadsDown f n) same
+        (two.down t (subst (IsReadable b) (sym one.work.space) (readable_stays a b (one.only t) k.space readable))
+        (subst (λ (f : ℕ → Option Record). LeadsDown f m) (sym same) (one.down t readable down)));
   }
 
   pub blames_later : {A : Type 0} (a b : Told) (k m : KeepView) (result : Result A KeepFault) → Goes tells a b k m → Blameless tells b m result → Blameless tells a k result
@@ -86,7 +95,7 @@ module _ (tells : Bool) where
     still_held t readable held = held_later a b k.space (only t) readable k.kept held
 
     pub goes_read : Goes tells a b k k
-    goes_read = record { keep = keep; work = same_work k; only = only; keeping = λ t readable records whole keeping. keeping; held = still_held }
+    goes_read = record { keep = keep; work = same_work k; only = only; keeping = λ t readable records whole keeping. keeping; held = still_held; down = λ t readable down. down }
 
     -- the one that stands there is the one that was read
     is_there : (records : Records) → AreRecords a.held k.space k.horizon records → (at : ℕ) (r : Record) → records_of a k.space at ≡ Some r → (s : Record) × (present records at ≡ Some s) → present records at ≡ Some r
@@ -109,16 +118,18 @@ module _ (tells : Bool) where
         only = only;
         keeping = some_entered gains;
         held = still_held;
+        down = λ t readable down. record { above = down.above; kept = down.kept };
       }
 
-      pub goes_behind : Gains k.waiting w (refs_of r) k.horizon → k.next + length (spelling r) ≤ k.space.layout.end → Goes tells a b k (behind_next (waits k w) r)
-      goes_behind gains inside = record {
+      pub goes_behind : Gains k.waiting w (refs_of r) k.horizon → k.next + length (spelling r) ≤ k.space.layout.end → are_below k.next (refs_of r) ≡ true → Goes tells a b k (behind_next (waits k w) r)
+      goes_behind gains inside under = record {
         keep = passed_keep (waits k w) r kept more inside;
         work = record { space = refl; horizon = refl };
         only = only;
         keeping = λ t readable records whole keeping.
             passed a.held records (waits k w) whole (some_entered gains.some t readable records whole keeping) r kept more (here t readable records whole keeping) (λ at c under. inl (gains.all at c under));
         held = still_held;
+        down = λ t readable down. record { above = behind r down.above (found t readable) under; kept = down.kept };
       }
         where
           kept : IsKeep (waits k w)
@@ -144,6 +155,7 @@ module _ (tells : Bool) where
         only = only;
         keeping = below_entered gains;
         held = still_held;
+        down = λ t readable down. record { above = down.above; kept = down.kept };
       }
 
       -- it is the last one still
@@ -154,9 +166,9 @@ module _ (tells : Bool) where
           by n (inl c) = most n c
           by n (inr (c, less)) = omega (arith, less)
 
-      pub goes_kept : (rest : List ℕ) (size : ℕ) → Gains k.waiting w (refs_of r) at → k.next ≡ k.space.layout.end → w ≡ rest ++ at ∷ [] → size ≡ length (spelling r) → at + size ≤ lowest k
+      pub goes_kept : (rest : List ℕ) (size : ℕ) → Gains k.waiting w (refs_of r) at → are_below at (refs_of r) ≡ true → k.next ≡ k.space.layout.end → w ≡ rest ++ at ∷ [] → size ≡ length (spelling r) → at + size ≤ lowest k
           → (IsTrue tells → IsReadable a k.space → Stands (byte_at b k.space) at (spelling r)) → Goes tells a b k (with_kept (waits k w) rest (record { at = at; length = size }))
-      goes_kept rest size gains through is long inside stands_read = record {
+      goes_kept rest size gains under through is long inside stands_read = record {
         keep = kept_keep (waits k w) rest run (stays_keep k w (refs_of r) at keep at_low gains.some) through is (let some = some_bytes r in omega (arith, some, long)) inside
             (increasing rest (up_front rest at (up (rest ++ at ∷ []) (subst IsStrictlyIncreasing is (gains.some.rises keep.waits)))));
         work = record { space = refl; horizon = refl };
@@ -165,6 +177,7 @@ module _ (tells : Bool) where
             kept_one a.held records (waits k w) whole (below_entered gains.some t readable records whole keeping) rest run r is (stands t readable records whole keeping) long
             (λ n c. inl (gains.all n c (refers_under a.held records k whole keeping r at (stands t readable records whole keeping) n c)));
         held = λ t readable held. (held_stood (byte_at b k.space) at size (spelling r) (stands_read t readable) (sym long), still_held t readable held);
+        down = λ t readable down. record { above = down.above; kept = (subst (λ (o : Option Record). IsSomeAnd o (λ rec. are_below at (refs_of rec) ≡ true)) (sym (found t readable)) under, down.kept) };
       }
         where
           run : Run

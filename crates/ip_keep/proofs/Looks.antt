@@ -38,14 +38,14 @@ module _ (tells : Bool) (a : Told) (scan : ScanView) (k o : KeepView) (is : k �
     pub up_waits : GainsSome k.waiting w (refs_of r) k.horizon → Goes tells a b o (waits k w)
     up_waits gains = subst (λ (q : KeepView). Goes tells a b q (waits k w)) is (goes_up tells a b k ready.keep only r w ready.more found_next gains)
 
-    pub up_behind : (next seen : ℕ) → Gains k.waiting w (refs_of r) k.horizon → scan.next + length (spelling r) ≤ k.space.layout.end → next ≡ scan.next + length (spelling r) → seen ≡ k.seen + 1
+    pub up_behind : (next seen : ℕ) → Gains k.waiting w (refs_of r) k.horizon → are_below scan.next (refs_of r) ≡ true → scan.next + length (spelling r) ≤ k.space.layout.end → next ≡ scan.next + length (spelling r) → seen ≡ k.seen + 1
         → Goes tells a b o (record k { next = next; seen = seen; waiting = w })
-    up_behind next seen gains inside step one =
+    up_behind next seen gains under inside step one =
         let from = ready.along.next in
         let to : k.next + length (spelling r) ≡ next = omega (arith, from, step) in
         subst (λ (q : KeepView). Goes tells a b q (record k { next = next; seen = seen; waiting = w })) is
         (subst (λ (n : ℕ). Goes tells a b k (record k { next = next; seen = n; waiting = w })) (sym one)
-        (subst (λ (n : ℕ). Goes tells a b k (record k { next = n; seen = k.seen + 1; waiting = w })) to (goes_behind tells a b k ready.keep only r w ready.more found_next gains (omega (arith, inside, from)))))
+        (subst (λ (n : ℕ). Goes tells a b k (record k { next = n; seen = k.seen + 1; waiting = w })) to (goes_behind tells a b k ready.keep only r w ready.more found_next gains (omega (arith, inside, from)) (subst (λ (n : ℕ). are_below n (refs_of r) ≡ true) from under))))
 
   pub up_blameless : {A : Type 0} (result : Result A KeepFault)
       → (IsTrue tells → IsReadable a k.space → IsCurrent a k.space scan → (at : ℕ) → IsErrOf result (KeepFault.Damaged at) →
@@ -94,12 +94,12 @@ module _ (tells : Bool) (a : Told) (at : ℕ) (k o : KeepView) (is : k ≡ o) (a
       pub down_last : GainsSome k.waiting w (refs_of r) at → (rest : List ℕ) × (w ≡ rest ++ at ∷ [])
       down_last gains = still_last tells a b k set.keep only r w at set.there found gains set.most
 
-      pub down_kept : (rest : List ℕ) (size below : ℕ) → Gains k.waiting w (refs_of r) at → w ≡ rest ++ at ∷ [] → size ≡ length (spelling r) → at + size ≤ below → below ≡ lowest o
+      pub down_kept : (rest : List ℕ) (size below : ℕ) → Gains k.waiting w (refs_of r) at → are_below at (refs_of r) ≡ true → w ≡ rest ++ at ∷ [] → size ≡ length (spelling r) → at + size ≤ below → below ≡ lowest o
           → (IsTrue tells → IsReadable a k.space → Stands (byte_at b k.space) at (spelling r)) → Goes tells a b o (record k { space = space; waiting = rest; kept = record { at = at; length = size } ∷ k.kept })
-      down_kept rest size below gains last long inside low stands =
+      down_kept rest size below gains under last long inside low stands =
           let low_k : below ≡ lowest k = low ∙ ap lowest (sym is) in
           moved (with_kept (waits k w) rest (record { at = at; length = size })) space same
-          (goes_kept tells a b k set.keep only r w at set.there found rest size gains set.up last long (omega (arith, inside, low_k)) stands)
+          (goes_kept tells a b k set.keep only r w at set.there found rest size gains under set.up last long (omega (arith, inside, low_k)) stands)
 
   pub down_blameless : {A : Type 0} (result : Result A KeepFault) (below : ℕ) → below ≡ lowest o
       → (IsTrue tells → IsReadable a k.space → (place : ℕ) → IsErrOf result (KeepFault.Damaged place) → (r : Record) → records_of a k.space at ≡ Some r → are_below at (refs_of r) ≡ true → below < at + length (spelling r)) → Blameless tells a o result

@@ -12,7 +12,7 @@ use Rattle.ip_space.specs.ScanView.{ScanView}
 use Rattle.ip_keep.specs.declared.fault.KeepFault.{KeepFault}
 use Rattle.ip_keep.specs.Faults.{IsUndamaged}
 use Rattle.ip_keep.specs.KeepView.{KeepView}
-use Rattle.ip_keep.specs.Keeping.{IsBlamedKeep, IsBroken, IsKeep, IsKeeping, SameWork, looked_in}
+use Rattle.ip_keep.specs.Keeping.{IsBlamedKeep, IsBroken, IsKeep, IsKeeping, LeadsDown, SameWork, looked_in}
 use Rattle.ip_keep.specs.Runs.{AreHeld}
 use Rattle.ip_keep.specs.Whole.{AreRecords}
 
@@ -23,6 +23,8 @@ pub record Goes (tells : Bool) (before after : Told) (old new : KeepView) : Type
   pub keeping : IsTrue tells → IsReadable before old.space → (records : Records) → AreRecords before.held old.space old.horizon records → IsKeeping records old → IsKeeping records new
   -- over any files, what is kept was read whole
   pub held : IsTrue tells → IsReadable before old.space → AreHeld (byte_at before old.space) old.kept → AreHeld (byte_at after old.space) new.kept
+  -- and no reference that lies ahead was passed over
+  pub down : IsTrue tells → IsReadable before old.space → LeadsDown (records_of before old.space) old → LeadsDown (records_of before old.space) new
 
 abbrev pub Blameless : {A : Type 0} → Bool → Told → KeepView → Result A KeepFault → Type 0
 Blameless tells before old result = IsTrue tells → IsReadable before old.space → (records : Records) → AreRecords before.held old.space old.horizon records → IsKeeping records old → IsUndamaged result

@@ -4,9 +4,11 @@
 --     IsKeeping records k      what it has found of these records
 --     IsGreatest waiting at      it is one of them, and none is greater.      IsBlamedKeep k at      the record that is looked at next
 --     IsBroken records k at      none stands there, or none that a whole store has
+--     RefersDown records at      a record stands there, and what it refers to lies below it.      RunsDown records from to      so it is of all between these, end to end
+--     LeadsDown records k      and of each that was looked at, over any files
 --     SameWork old new      it goes on in the same space, at the same horizon.      LooksUpTo most old new result      how many records were looked at
 --     KeepsAll      law: then what was kept is the least set.      FewLooks      law: how many looks there are at most
-use Rattle.std.specs.Prelude.{◌≡◌, ◌⊎◌, ℕ, ◌+◌, ◌<◌, ◌≤◌, ◌&&◌, List, [], length, map, count_by, Bool, true, Contains, Option, Some, Result, Ok, Err, nat_le, nat_lt}
+use Rattle.std.specs.Prelude.{◌≡◌, ◌⊎◌, ℕ, ◌+◌, ◌<◌, ◌≤◌, ◌&&◌, List, [], length, map, count_by, Bool, true, Contains, Option, Some, IsSomeAnd, Result, Ok, Err, nat_le, nat_lt}
 use Rattle.std.specs.List.{AllByRecursion}
 use Rattle.std.specs.List.Sorted.{IsStrictlyIncreasing}
 use Rattle.ip_base.specs.declared.limit.TheConstants.{OFFSET_MAX}
@@ -77,6 +79,18 @@ IsBlamedKeep k at = ((k.next < k.space.layout.end) × (at ≡ k.next)) ⊎ ((k.n
 -- no record stands there, or it refers to what does not lie below it, or it is one below the horizon that goes over the next that is kept
 abbrev pub IsBroken : (ℕ → Option Record) → KeepView → ℕ → Type 0
 IsBroken records k at = (rec : Record) → records at ≡ Some rec → are_below at (refs_of rec) ≡ true → (at < k.horizon) × (lowest k < at + length (spelling rec))
+
+abbrev pub RefersDown : (ℕ → Option Record) → ℕ → Type 0
+RefersDown records at = IsSomeAnd (records at) (λ rec. are_below at (refs_of rec) ≡ true)
+
+pub data RunsDown (records : ℕ → Option Record) (from : ℕ) : ℕ → Type 0 where
+  from_there : RunsDown records from from
+  behind : {to : ℕ} (found : Record) → RunsDown records from to → records to ≡ Some found → are_below to (refs_of found) ≡ true → RunsDown records from (to + length (spelling found))
+
+-- no reference that lies ahead was passed over
+pub record LeadsDown (records : ℕ → Option Record) (k : KeepView) : Type 0 where
+  pub above : RunsDown records k.horizon k.next
+  pub kept : AllByRecursion (λ run. RefersDown records run.at) k.kept
 
 pub record SameWork (old new : KeepView) : Type 0 where
   pub space : new.space ≡ old.space

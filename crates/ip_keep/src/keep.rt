@@ -1,17 +1,18 @@
 // The search for the records that a collection keeps.
-ghost use Rattle.std.specs.Prelude.{◌≡◌, ◌↔◌, ◌+◌, ◌*◌, ◌≤◌, ◌<◌, [], ◌∷◌, ◌++◌, ℕ, List, Contains, reverse, length, IsTrue, IsErrOf, OnOk, OnErr};
+ghost use Rattle.std.specs.Prelude.{◌≡◌, ◌↔◌, ◌+◌, ◌*◌, ◌≤◌, ◌<◌, [], ◌∷◌, ◌++◌, ℕ, List, Option, Contains, reverse, length, IsTrue, IsErrOf, OnOk, OnErr};
 ghost use Rattle.ip_base.specs.declared.limit.TheConstants.{OFFSET_MAX};
 ghost use Rattle.ip_ground.specs.Contents.{Image};
 ghost use Rattle.ip_ground.specs.Counts.{Counts};
 ghost use Rattle.ip_ground.specs.Told.{NoFile, ChangesOnly};
 ghost use Rattle.ip_spec.specs.TreeAt.{Records};
+ghost use Rattle.ip_spec.specs.declared.record.Record.{Record as RecordValue};
 ghost use Rattle.ip_image.specs.Virtual.{RowsFit, placed, total};
 ghost use Rattle.ip_space.specs.SpaceView.{AreBelow, IsReadable, byte_at, records_of};
 ghost use Rattle.ip_space.specs.Scanning.{IsCurrent};
 ghost use Rattle.ip_keep.specs.declared.fault.KeepFault.TheVariants as KeepFaultValue;
 ghost use Rattle.ip_keep.specs.Faults.{counted_keep, IsUndamaged};
 ghost use Rattle.ip_keep.specs.Going.{Goes, Blameless, Blames, Breaks, IsAlong, LooksOne, LooksOn};
-ghost use Rattle.ip_keep.specs.Keeping.{IsBlamedKeep, IsBroken, IsKeep, IsThrough, IsKeeping, LooksUpTo, SameWork, looked_in, lowest};
+ghost use Rattle.ip_keep.specs.Keeping.{IsBlamedKeep, IsBroken, IsKeep, IsThrough, IsKeeping, LeadsDown, LooksUpTo, SameWork, looked_in, lowest};
 ghost use Rattle.ip_keep.specs.Runs.{AreHeld, FitRuns, joined, left_of};
 ghost use Rattle.ip_keep.specs.Whole.{AreRecords};
 
@@ -58,6 +59,7 @@ impl Keep {
         ensures view { result ≡ record { space = space; horizon = horizon; next = horizon; seen = 0; waiting = []; kept = [] } }
         ensures keep { IsKeep result }
         ensures keeping { (image : Image) (records : Records) → AreRecords image space horizon records → IsKeeping records result }
+        ensures sound { (records : ℕ → Option RecordValue) → LeadsDown records result }
     {
         Keep {
             alloc,
@@ -137,6 +139,9 @@ impl Keep {
         // Over any files: no byte of what is kept is missing.
         ensures held { IsTrue G.tells → IsReadable (G.told outside.old) self.old.space → AreHeld (byte_at (G.told outside.old) self.old.space) self.old.kept →
             AreHeld (byte_at (G.told outside.new) self.old.space) self.new.kept }
+        // And what each record refers to that was looked at lies below it.
+        ensures sound { IsTrue G.tells → IsReadable (G.told outside.old) self.old.space → LeadsDown (records_of (G.told outside.old) self.old.space) self.old →
+            LeadsDown (records_of (G.told outside.old) self.old.space) self.new }
         ensures undamaged { IsTrue G.tells → IsReadable (G.told outside.old) self.old.space → (records : Records) → AreRecords (G.told outside.old).held self.old.space self.old.horizon records →
             IsKeeping records self.old → IsUndamaged result }
         // Over any ground: damage is told of a record that was not looked at.

@@ -23,5 +23,11 @@ returns-clause-held g c = (goes_on g.G.Ground.tells _ _ _ c.args.self.now c.go_u
 pub returns-in-Err-clause-held : goal.returns-in-Err-clause-held
 returns-in-Err-clause-held g c = c.in-Err.ensures.goes.held
 
+pub returns-clause-sound : goal.returns-clause-sound
+returns-clause-sound g c = (goes_on g.G.Ground.tells _ _ _ c.args.self.now c.go_up.new.self c.go_down.new.self c.in-Ok.ensures.goes c.go_down.ensures.goes).down
+
+pub returns-in-Err-clause-sound : goal.returns-in-Err-clause-sound
+returns-in-Err-clause-sound g c = c.in-Err.ensures.goes.down
+
 pub returns-clause-broken : goal.returns-clause-broken
 returns-clause-broken g c = breaks_later g.G.Ground.tells _ _ c.args.self.now c.go_up.new.self c.go_down.new.self c.go_down.result c.in-Ok.ensures.goes c.go_down.ensures.broken

@@ -45,7 +45,7 @@ pub returns-clause-goes : goal.returns-clause-goes
 returns-clause-goes g c =
     subst (λ (n : KeepView). Goes g.G.Ground.tells (g.G.Ground.told c.args.outside.now) (g.G.Ground.told c.record_below.new.outside) c.args.self.now n) (sym c.in_ok-keep.ensures.kept.1)
     (down_kept g.G.Ground.tells _ c.greatest-at.result _ c.args.self.now c.self.view_is (record { keep = c.requires.keep; up = c.requires.up; there = c.greatest-at.ensures.waits; most = c.greatest-at.ensures.greatest }) _ c.record_below.ensures.same
-    _ c.record_below.ensures.only c.in-Ok.found.0 _ c.in-Ok.ensures.found c.keep.new.self.waiting c.in-Ok.found.1 c.lowest-below.result c.in_ok-enter.ensures.all c.in_ok-keep.ensures.kept.0 c.in-Ok.ensures.length c.in-Ok.ensures.inside c.lowest-below.ensures c.in-Ok.ensures.stands)
+    _ c.record_below.ensures.only c.in-Ok.found.0 _ c.in-Ok.ensures.found c.keep.new.self.waiting c.in-Ok.found.1 c.lowest-below.result c.in_ok-enter.ensures.all c.in-Ok.ensures.below c.in_ok-keep.ensures.kept.0 c.in-Ok.ensures.length c.in-Ok.ensures.inside c.lowest-below.ensures c.in-Ok.ensures.stands)
 
 pub returns-in-Err-clause-blames : goal.returns-in-Err-clause-blames
 returns-in-Err-clause-blames g c =

@@ -24,7 +24,7 @@ pub returns-clause-goes : goal.returns-clause-goes
 returns-clause-goes g c =
     let r = c.requires in
     up_behind g.G.Ground.tells _ c.args.scan.now _ c.args.self.now c.self.view_is (record { keep = r.keep; more = r.more; along = r.along; current = r.current })
-    _ c.next_record.ensures.only c.in-Ok.rec _ c.in-Ok.ensures.found c.next-self-inside.result _ c.in_ok-enter.ensures.all c.in-Ok.ensures.inside (c.next-self-inside.ensures ∙ c.in-Ok.ensures.moves.0) refl
+    _ c.next_record.ensures.only c.in-Ok.rec _ c.in-Ok.ensures.found c.next-self-inside.result _ c.in_ok-enter.ensures.all c.in-Ok.ensures.below c.in-Ok.ensures.inside (c.next-self-inside.ensures ∙ c.in-Ok.ensures.moves.0) refl
 
 pub returns-in-Err-clause-blames : goal.returns-in-Err-clause-blames
 returns-in-Err-clause-blames g c =
