@@ -2,6 +2,7 @@
 ghost use Rattle.std.specs.Prelude.{◌≡◌, ◌≤◌, ◌+◌, ◌-◌, ℕ, true, false, List, [], drop, length, None, Some, Ok, IsNone, IsSome, is_some, IfOk, IfErr, OnOk, OnErr, IsErr};
 ghost use Rattle.std.specs.Option.{option_copied};
 ghost use Rattle.std.specs.FinMap.Entries.{find, put};
+ghost use Rattle.sha2.specs.Sha256.{sha256};
 ghost use Rattle.ip_spec.specs.Path.{Step as TheStep, bytes_cmp};
 ghost use Rattle.ip_spec.specs.Shape.{at_place, deepest, is_leaf, part_from};
 ghost use Rattle.ip_shape.specs.Shape.{AreAlike, AreSteps, IsInodeOf, IsLeafOf, IsPart, add, has, take_out};
@@ -85,7 +86,8 @@ pub fn build<C: Drop, R: Drop>(alloc: Global, entries: Entries<C>) -> Result<Dir
     let mut left = entries;
     let mut dir = Dir::empty(alloc);
     while let Some((step, child)) = left.pop() {
-        insert(alloc, &mut dir, &step, child)?;
+        let places = Places::of(&step);
+        insert(alloc, &mut dir, &step, &places, child)?;
     }
     Ok(dir)
 }
@@ -114,7 +116,10 @@ pub(crate) fn put_entries<C: Drop>(map: &mut BTreeMap<Step, C>, entries: Entries
 }
 
 // The map of entries. Where they are in the order of their steps it takes no search for their places.
-fn map_of<C: Drop>(alloc: Global, entries: Entries<C>) -> Result<BTreeMap<Step, C>, AllocError>
+pub(crate) fn map_of<C: Drop>(
+    alloc: Global,
+    entries: Entries<C>,
+) -> Result<BTreeMap<Step, C>, AllocError>
     ensures { AreSteps (steps_of entries.items) → IfOk result (λ map. map.entries ≡ entries.items) }
 {
     entries.into_iter().collect(alloc)
@@ -146,14 +151,16 @@ pub fn find<'a, C, R>(dir: &'a Dir<C, R>, step: &Step) -> Option<&'a C>
     dir.entries.get(step)
 }
 
-/// Puts a child at a step, and gives the one that it replaced. Each part on the way is to be read: where one is not, it is an `Err`. That leaves the directory as it was, and
-/// drops the child.
+/// Puts a child at a step, which has these places, and gives the one that it replaced. Each part on the way is to be read: where one is not, it is an `Err`. That leaves the
+/// directory as it was, and drops the child.
 pub fn insert<C: Drop, R: Drop>(
     alloc: Global,
     dir: &mut Dir<C, R>,
     step: &Step,
+    places: &Places,
     child: C,
 ) -> Result<Option<C>, Memory>
+    requires { places.now ≡ sha256 step.now }
     ensures inserted { (steps : List TheStep) (entries : List (TheStep × C)) → IsPartly dir.old steps entries → is_read_to dir.old step.now ≡ true →
         IfOk result (λ replaced. (replaced ≡ find bytes_cmp step.now entries) × IsPartly dir.new (add step.now steps) (put bytes_cmp step.now child entries) ×
         IsEdited 0 step.now (root_of dir.old) (root_of dir.new)) }
@@ -163,13 +170,12 @@ pub fn insert<C: Drop, R: Drop>(
 {
     let key = step.copy(alloc)?;
     let replaced = dir.entries.insert(key, child)?;
-    let places = Places::of(step);
     let root = mem::replace(&mut dir.root, no_part(alloc));
     if let Some(replaced) = replaced {
-        dir.root = forgotten(alloc, root, &places, 0, step);
+        dir.root = forgotten(alloc, root, places, 0, step);
         return Ok(Some(replaced));
     }
-    match with_step(alloc, root, &places, 0, step) {
+    match with_step(alloc, root, places, 0, step) {
         Ok(more) => {
             dir.root = more;
             Ok(None)
@@ -182,13 +188,15 @@ pub fn insert<C: Drop, R: Drop>(
     }
 }
 
-/// Takes the entry at a step out, and gives its child, or `None` where no part that was read has the step, which takes no memory and changes nothing. Each part that
+/// Takes the entry at a step, which has these places, out, and gives its child, or `None` where no part that was read has the step, which takes no memory and changes nothing. Each part that
 /// `missing_to_remove` tells is to be read: where one is not, an entry that stands there stays, and it is an `Err`. That leaves the directory as it was.
 pub fn remove<C: Drop, R: Drop>(
     alloc: Global,
     dir: &mut Dir<C, R>,
     step: &Step,
+    places: &Places,
 ) -> Result<Option<C>, Memory>
+    requires { places.now ≡ sha256 step.now }
     ensures removed { (steps : List TheStep) (entries : List (TheStep × C)) → IsPartly dir.old steps entries → is_read_to dir.old step.now ≡ true →
         IfOk result (λ removed. (removed ≡ find bytes_cmp step.now entries) × IsPartly dir.new (take_out step.now steps) (without step.now entries) ×
         IsTaken removed step.now steps (root_of dir.old) (root_of dir.new)) }
@@ -203,7 +211,7 @@ pub fn remove<C: Drop, R: Drop>(
         return Ok(None);
     }
     let root = mem::replace(&mut dir.root, no_part(alloc));
-    match without_step(alloc, root, &Places::of(step), 0, step) {
+    match without_step(alloc, root, places, 0, step) {
         Ok(less) => {
             dir.root = less;
             Ok(dir.entries.remove(step))
@@ -232,11 +240,12 @@ pub fn exchange<C: Drop, R>(dir: &mut Dir<C, R>, step: &Step, child: C) -> Optio
     }
 }
 
-/// Says that another child stands at a step than the records know: no part on the way to it is known any more.
-pub fn forget<C, R: Drop>(alloc: Global, dir: &mut Dir<C, R>, step: &Step)
+/// Says that another child stands at a step, which has these places, than the records know: no part on the way to it is known any more.
+pub fn forget<C, R: Drop>(alloc: Global, dir: &mut Dir<C, R>, step: &Step, places: &Places)
+    requires { places.now ≡ sha256 step.now }
     ensures { (steps : List TheStep) (entries : List (TheStep × C)) → IsPartly dir.old steps entries →
         IsPartly dir.new steps entries × IsEdited 0 step.now (root_of dir.old) (root_of dir.new) }
 {
     let root = mem::replace(&mut dir.root, no_part(alloc));
-    dir.root = forgotten(alloc, root, &Places::of(step), 0, step);
+    dir.root = forgotten(alloc, root, places, 0, step);
 }

@@ -12,7 +12,7 @@ ghost use Rattle.ip_shape.specs.declared.part.Part.{Part, out-Part};
 ghost use Rattle.ip_shape.specs.declared.part.Part.TheVariants as variant;
 ghost use Rattle.std.proofs.Math.ListN.{set};
 
-use crate::dir::{Dir, Entries, put_entries};
+use crate::dir::{Dir, Entries, map_of, put_entries};
 use crate::part::{Part, no_part};
 use crate::places::{CHILDREN, DEEPEST, Places};
 use ip_base::limit::LEAF_ENTRIES_MAX;
@@ -84,19 +84,18 @@ fn first_indexes(alloc: Global, places: &Places, depth: u8) -> Result<Vec<u8>, M
     Ok(indexes)
 }
 
-/// The part that has to be read first before `find` and `insert` can go on at a step, or `None` where each part on the way to it was read.
+/// The part that has to be read first before `find` and `insert` can go on at a step of these places, or `None` where each part on the way to it was read.
 pub fn missing<C, R: Copy>(
     alloc: Global,
     dir: &Dir<C, R>,
-    step: &Step,
+    places: &Places,
 ) -> Result<Option<UnreadPart<R>>, Memory>
-    ensures { IfOk result (λ found. IsMissing step.now (root_of dir.now) (option_map {U = List ℕ × R} (λ m. (m.indexes.items, m.record)) found)) }
+    ensures { (s : TheStep) → places.now ≡ sha256 s → IfOk result (λ found. IsMissing s (root_of dir.now) (option_map {U = List ℕ × R} (λ m. (m.indexes.items, m.record)) found)) }
 {
-    let places = Places::of(step);
-    match unread_on(dir.root(), &places, 0) {
+    match unread_on(dir.root(), places, 0) {
         None => Ok(None),
         Some((depth, record)) => {
-            let indexes = first_indexes(alloc, &places, depth)?;
+            let indexes = first_indexes(alloc, places, depth)?;
             Ok(Some(UnreadPart {
                 record: *record,
                 indexes,
@@ -176,19 +175,20 @@ fn unread_to_join<'a, R>(
     }
 }
 
-/// The part that has to be read next before `remove` can go on at a step, or `None` where each of them was read: those on the way to the step, and where it is there and an
+/// The part that has to be read next before `remove` can go on at a step, which has these places, or `None` where each of them was read: those on the way to the step, and where it is there and an
 /// inode becomes a leaf without it, each part below that inode.
 pub fn missing_to_remove<C, R: Copy>(
     alloc: Global,
     dir: &Dir<C, R>,
     step: &Step,
+    places: &Places,
 ) -> Result<Option<UnreadPart<R>>, Memory>
+    requires { places.now ≡ sha256 step.now }
     ensures { (steps : List TheStep) (entries : List (TheStep × C)) → IsPartly dir.now steps entries →
         IfOk result (λ found. IsNeeded step.now steps (root_of dir.now) (option_map {U = List ℕ × R} (λ m. (m.indexes.items, m.record)) found)) }
 {
-    let places = Places::of(step);
-    if let Some((depth, record)) = unread_on(dir.root(), &places, 0) {
-        let indexes = first_indexes(alloc, &places, depth)?;
+    if let Some((depth, record)) = unread_on(dir.root(), places, 0) {
+        let indexes = first_indexes(alloc, places, depth)?;
         return Ok(Some(UnreadPart {
             record: *record,
             indexes,
@@ -197,7 +197,7 @@ pub fn missing_to_remove<C, R: Copy>(
     if !dir.entries.contains_key(step) {
         return Ok(None);
     }
-    match unread_to_join(alloc, dir.root(), &places, 0)? {
+    match unread_to_join(alloc, dir.root(), places, 0)? {
         None => Ok(None),
         Some((mut indexes, record)) => {
             indexes.reverse();
@@ -306,14 +306,20 @@ fn take_entries<C: Drop>(map: &mut BTreeMap<Step, C>, steps: &[Step])
 
 // Puts entries at these steps into a map that has none of them. An `Err` leaves the map as it was.
 fn enter<C: Drop>(
+    alloc: Global,
     map: &mut BTreeMap<Step, C>,
     entries: Entries<C>,
     steps: &[Step],
 ) -> Result<(), Memory>
     requires { steps.now ≡ steps_of entries.items }
-    ensures entered { OnOk result (map.new.entries ≡ entries_from entries.items map.old.entries) }
+    ensures entered { AreSteps (steps_of entries.items) → OnOk result (map.new.entries ≡ entries_from entries.items map.old.entries) }
     ensures refused { AreNew entries.items map.old.entries → OnErr result (map.new.entries ≡ map.old.entries) }
 {
+    // In the order of their steps they take no search for their places.
+    if map.is_empty() {
+        *map = map_of(alloc, entries)?;
+        return Ok(());
+    }
     let left = put_entries(map, entries);
     if left == 0 {
         return Ok(());
@@ -338,7 +344,7 @@ pub fn read_leaf<C: Drop, R: Drop>(
         steps_of entries.items ≡ steps_under 0 indexes.now steps → OnErr result (IsPartly dir.new steps old × (root_of dir.new ≡ root_of dir.old)) }
 {
     let steps = steps_in(alloc, &entries)?;
-    enter(&mut dir.entries, entries, &steps)?;
+    enter(alloc, &mut dir.entries, entries, &steps)?;
     let root = mem::replace(&mut dir.root, no_part(alloc));
     dir.root = entered(alloc, root, indexes, 0, Content::Leaf(steps));
     Ok(())

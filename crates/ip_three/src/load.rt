@@ -16,6 +16,7 @@ ghost use Rattle.ip_tree.specs.declared.tree.TreeFault.TheVariants as TreeFault;
 use ip_base::Step;
 use ip_ground::Ground;
 use ip_shape::dir::exchange;
+use ip_shape::places::Places;
 use ip_space::Space;
 use ip_tree::load::{load_way, unfold};
 use ip_tree::place::{put_back, vacant};
@@ -60,12 +61,14 @@ fn load_in<G: Ground>(
     ensures counts { Counts counted_tree result (G.counts_of outside.old) (G.counts_of outside.new) }
     ensures causes { IfErr result (IsCause G.tells (G.told outside.old) space.old) }
 {
-    load_way(alloc, outside, space, dir, &steps[0])?;
-    match exchange(dir, &steps[0], vacant(alloc)) {
+    let step = &steps[0];
+    let places = Places::of(step);
+    load_way(alloc, outside, space, dir, &places)?;
+    match exchange(dir, step, vacant(alloc)) {
         None => Ok(()),
         Some(mut node) => {
             let loaded = load_at(alloc, outside, space, &mut node, &steps[1..]);
-            put_back(alloc, dir, &steps[0], node, false);
+            put_back(alloc, dir, step, &places, node, false);
             loaded
         }
     }

@@ -4,7 +4,7 @@
 --     placed_entry      a directory of which the way was read, its child was taken out, and put back when the node was put below it
 --     placed_through      a node that was opened, and is a directory in which the node was put
 --     placed_over      a node that was opened, and is none: new directories stand there now
-use Rattle.std.proofs.Common.{◌≡◌, ℕ, Bool, true, List, [], ◌∷◌, sym, ap, subst, ◌∙◌, Option, Some, None}
+use Rattle.std.proofs.Common.{◌≡◌, ℕ, Bool, true, List, [], ◌∷◌, refl, sym, ap, subst, ◌∙◌, Option, Some, None}
 use Rattle.std.specs.Prelude.{Result, Ok, is_ok, is_some}
 use Rattle.std.specs.FinMap.Entries.{find, put}
 use Rattle.ip_spec.specs.Path.{Step, Path, bytes_cmp}
@@ -34,32 +34,29 @@ module _ (records : ℕ → Option Record) (n : told.Node) (sub : Tree) (is_node
 
   pub placed_added : (d mid between new : Dir Node Stored) (t : Tree) (p : Path) (s : Step) (path : Path) (result : Result (Unit {0}) TreeFault) → p ≡ s ∷ path → between ≡ mid → IsOpened records s (shown_directory d) (shown_directory mid) t
       → find bytes_cmp s mid.entries.entries ≡ None
-      → (IsDirectory records (shown_directory between) t → IsNewAt p (shown_directory between) → Places (IsDirectory records) records p n sub (shown_directory between) (shown_directory new) t result)
+      → (IsDirectory records (shown_directory between) t → IsNewAt (s ∷ path) (shown_directory between) → Places (IsDirectory records) records (s ∷ path) n sub (shown_directory between) (shown_directory new) t result)
       → Places (IsDirectory records) records p n sub (shown_directory d) (shown_directory new) t result
   placed_added d mid between new t p s path result split same opened lost added =
       let kept : IsSame (IsDirectory records) records (shown_directory d) (shown_directory between) t = subst (λ (x : Dir Node Stored). IsSame (IsDirectory records) records (shown_directory d) (shown_directory x) t) (sym same) opened.same in
-      let new_there : IsNewAt p (shown_directory between) = subst (λ (x : Dir Node Stored). IsNewAt p (shown_directory x)) (sym same) (is_new_at mid p s path split opened.way lost) in
-      placed_after (IsDirectory records) (IsDirectory records) records p n sub (shown_directory d) (shown_directory between) (shown_directory new) t result kept (added kept.means new_there)
+      let new_there : IsNewAt (s ∷ path) (shown_directory between) = subst (λ (x : Dir Node Stored). IsNewAt (s ∷ path) (shown_directory x)) (sym same) (is_new_at mid (s ∷ path) s path refl opened.way lost) in
+      subst (λ (q : Path). Places (IsDirectory records) records q n sub (shown_directory d) (shown_directory new) t result) (sym split)
+      (placed_after (IsDirectory records) (IsDirectory records) records (s ∷ path) n sub (shown_directory d) (shown_directory between) (shown_directory new) t result kept (added kept.means new_there))
 
-  -- the step was read three times from the path
-  pub placed_entry : (d mid between back : Dir Node Stored) (t : Tree) (p : Path) (s before later : Step) (path : Path) (vacant old child : Node) (result : Result (Unit {0}) TreeFault) (is_placed : Bool) → p ≡ s ∷ path → before ≡ s → later ≡ s
-      → is_placed ≡ is_ok result → IsOpened records before (shown_directory d) (shown_directory mid) t → find bytes_cmp s mid.entries.entries ≡ Some old
+  pub placed_entry : (d mid between back : Dir Node Stored) (t : Tree) (p : Path) (s : Step) (path : Path) (vacant old child : Node) (result : Result (Unit {0}) TreeFault) (is_placed : Bool) → p ≡ s ∷ path
+      → is_placed ≡ is_ok result → IsOpened records s (shown_directory d) (shown_directory mid) t → find bytes_cmp s mid.entries.entries ≡ Some old
       → ((w : Tree) → NodeIs records (shown old) w → Places (NodeIs records) records path n sub (shown old) (shown child) w result)
       → ((steps : List Step) (es : List (Step × Node)) → IsPartly mid steps es → IsPartly between steps (put bytes_cmp s vacant es)) → root_of between ≡ root_of mid
-      → ((steps : List Step) (es : List (Step × Node)) → IsPartly between steps es → is_some (find bytes_cmp later es) ≡ true
-      → IsPartly back steps (put bytes_cmp later child es) × ByTest is_placed (IsEdited 0 later (root_of between) (root_of back)) (root_of back ≡ root_of between))
+      → ((steps : List Step) (es : List (Step × Node)) → IsPartly between steps es → is_some (find bytes_cmp s es) ≡ true
+      → IsPartly back steps (put bytes_cmp s child es) × ByTest is_placed (IsEdited 0 s (root_of between) (root_of back)) (root_of back ≡ root_of between))
       → Places (IsDirectory records) records p n sub (shown_directory d) (shown_directory back) t result
-  placed_entry d mid between back t p s before later path vacant old child result is_placed split same_before same_later is_result was found put_at emptied root again =
-      let opened : IsOpened records s (shown_directory d) (shown_directory mid) t = subst (λ (k : Step). IsOpened records k (shown_directory d) (shown_directory mid) t) same_before was in
+  placed_entry d mid between back t p s path vacant old child result is_placed split is_result opened found put_at emptied root again =
       let means = opened.same.means in
       let c = child_is records mid t s means old found in
       subst (λ (q : Path). Places (IsDirectory records) records q n sub (shown_directory d) (shown_directory back) t result) (sym split)
       (placed_after (IsDirectory records) (IsDirectory records) records (s ∷ path) n sub (shown_directory d) (shown_directory mid) (shown_directory back) t result opened.same
       (placed_back records n sub is_node mid t s path means opened.way between back vacant old child c result found (put_at c.sub c.means) (emptied (steps_of (entries_of t).entries) mid.entries.entries (partly records mid t means)) root
       (subst (λ (b : Bool). (steps : List Step) (es : List (Step × Node)) → IsPartly between steps es → is_some (find bytes_cmp s es) ≡ true
-      → IsPartly back steps (put bytes_cmp s child es) × ByTest b (IsEdited 0 s (root_of between) (root_of back)) (root_of back ≡ root_of between)) is_result
-      (subst (λ (k : Step). (steps : List Step) (es : List (Step × Node)) → IsPartly between steps es → is_some (find bytes_cmp k es) ≡ true
-      → IsPartly back steps (put bytes_cmp k child es) × ByTest is_placed (IsEdited 0 k (root_of between) (root_of back)) (root_of back ≡ root_of between)) same_later again))))
+      → IsPartly back steps (put bytes_cmp s child es) × ByTest b (IsEdited 0 s (root_of between) (root_of back)) (root_of back ≡ root_of between)) is_result again)))
 
   pub placed_through : (old : told.Node) (node : Node) (inner new : Dir Node Stored) (p : Path) (t : Tree) (result : Result (Unit {0}) TreeFault) → node ≡ variant.Directory inner → IsUnfolded records old (shown node) t
       → (IsDirectory records (shown_directory inner) t → Places (IsDirectory records) records p n sub (shown_directory inner) (shown_directory new) t result) → Places (NodeIs records) records p n sub old (shown (variant.Directory new)) t result

@@ -51,16 +51,14 @@ pub record IsBack (d e : Dir Node Stored) (steps : List Step) (s : Step) (m : No
   pub root : ByTest is_changed (IsEdited 0 s (root_of d) (root_of e)) (root_of e ≡ root_of d)
 
 -- what was held there was taken out before, and something stands in its place
-pub back_is : (d mid e : Dir Node Stored) (steps : List Step) (s k : Step) (gone m : Node) (is_changed : Bool) → k ≡ s → IsPartly mid steps (put bytes_cmp s gone (entries_in d)) → root_of mid ≡ root_of d
-    → ((steps : List Step) (es : List (Step × Node)) → IsPartly mid steps es → is_some (find bytes_cmp k es) ≡ true →
-    IsPartly e steps (put bytes_cmp k m es) × ByTest is_changed (IsEdited 0 k (root_of mid) (root_of e)) (root_of e ≡ root_of mid))
+pub back_is : (d mid e : Dir Node Stored) (steps : List Step) (s : Step) (gone m : Node) (is_changed : Bool) → IsPartly mid steps (put bytes_cmp s gone (entries_in d)) → root_of mid ≡ root_of d
+    → ((steps : List Step) (es : List (Step × Node)) → IsPartly mid steps es → is_some (find bytes_cmp s es) ≡ true →
+    IsPartly e steps (put bytes_cmp s m es) × ByTest is_changed (IsEdited 0 s (root_of mid) (root_of e)) (root_of e ≡ root_of mid))
     → IsBack d e steps s m is_changed
-back_is d mid e steps s k gone m is_changed same out known back =
+back_is d mid e steps s gone m is_changed out known back =
     let some : is_some (find bytes_cmp s (put bytes_cmp s gone (entries_in d))) ≡ true =
     ap is_some (find-put bytes_cmp nat_list_cmp_total s s gone (entries_in d) ∙ ap (λ b. cond b (Some gone) (find bytes_cmp s (entries_in d))) (same_itself s)) in
-    let b : IsPartly e steps (put bytes_cmp s m (put bytes_cmp s gone (entries_in d))) × ByTest is_changed (IsEdited 0 s (root_of mid) (root_of e)) (root_of e ≡ root_of mid) =
-    subst (λ (x : Step). IsPartly e steps (put bytes_cmp x m (put bytes_cmp s gone (entries_in d))) × ByTest is_changed (IsEdited 0 x (root_of mid) (root_of e)) (root_of e ≡ root_of mid)) same
-    (back steps (put bytes_cmp s gone (entries_in d)) out (ap (λ (x : Step). is_some (find bytes_cmp x (put bytes_cmp s gone (entries_in d)))) same ∙ some)) in record {
+    let b = back steps (put bytes_cmp s gone (entries_in d)) out some in record {
       partly = subst (λ (l : List (Step × Node)). IsPartly e steps l) (put_again s gone m (entries_in d)) b.0;
       root = subst (λ r. ByTest is_changed (IsEdited 0 s r (root_of e)) (root_of e ≡ r)) known b.1;
     }

@@ -1,7 +1,7 @@
 -- A path by its first step, as slices show it.
 --     by_first, by_first_lt, by_head, by_head_lt      it is that step and what is left of it
 --     by_rest      what is left as a part of a slice
---     nil_of, same_first      no steps, and one first step
+--     nil_of      no steps
 use Rattle.std.proofs.Common.{◌≡◌, ◌-◌, [], ◌∷◌, refl, ap, take, drop, get_or, true, false, length, length-drop, arith, sym, ◌∙◌, ◌<◌}
 use Rattle.std.proofs.lemmas.List.{take_all}
 use Rattle.std.proofs.lemmas.Bool.Decides.{nat_tests}
@@ -29,10 +29,6 @@ by_rest p s e = e ∙ ap (λ q. s ∷ q) (sym (behind_first p))
 pub nil_of : (p : Path) → true ≡ (length p == 0) → p ≡ []
 nil_of [] e = refl
 nil_of (s ∷ p) e = absurd (grind (arith, nat_tests))
-
-pub same_first : (p : Path) (s t : Step) → 0 < length p → s ≡ get_or p 0 s → t ≡ get_or p 0 t → s ≡ t
-same_first [] s t some a b = absurd (omega arith)
-same_first (x ∷ p) s t some a b = a ∙ sym b
 
 pub by_head_lt : (p : Path) → 0 < length p → p ≡ get_or p 0 [] ∷ drop 1 p
 by_head_lt [] some = absurd (omega arith)

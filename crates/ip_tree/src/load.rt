@@ -1,11 +1,13 @@
 // Reading the parts of directories.
 ghost use Rattle.std.specs.Prelude.{◌≡◌, ◌+◌, ℕ, [], map, Option, Some, None, IsTrue, IsFalse, IfOk, IfErr, IsErrOf, MatchResult, min, sum_by, ◌-◌, ◌^◌};
+ghost use Rattle.sha2.specs.Sha256.{sha256};
 ghost use Rattle.ip_ground.specs.Counts.{Counts};
 ghost use Rattle.ip_space.specs.declared.fault.FetchFault.TheVariants as FetchFault;
 ghost use Rattle.ip_tree.specs.Faults.{counted_tree};
 ghost use Rattle.ip_shape.specs.Directory.{root_of};
 ghost use Rattle.ip_shape.specs.Loaded.{unread_in};
 ghost use Rattle.ip_shape.specs.Reading.{IsNeeded};
+ghost use Rattle.ip_spec.specs.Path.{Step as TheStep};
 ghost use Rattle.ip_spec.specs.Tree.{Tree as Map, entries_of, is_contents};
 ghost use Rattle.ip_spec.specs.View.{Part};
 ghost use Rattle.ip_spec.specs.StoredParts.{stored_part};
@@ -27,6 +29,7 @@ use crate::tree::TreeFault;
 use ip_base::{Memory, Step};
 use ip_ground::Ground;
 use ip_shape::dir::Entries;
+use ip_shape::places::Places;
 use ip_shape::reading::{
     Child, UnreadPart, missing, missing_to_remove, read_inode, read_leaf, unread,
 };
@@ -143,22 +146,22 @@ fn load_part<G: Ground>(
 // More parts than a removal can have to read: 52 on the way to its step, and 32 leaves beside it below a part of 33 entries. Records that lie may lead on for longer, so the loops have a bound.
 const READS_MAX: u8 = 52 + 32;
 
-/// Reads each part on the way to a step. It fetches a record for each of them that was not read.
+/// Reads each part on the way to a step of these places. It fetches a record for each of them that was not read.
 pub fn load_way<G: Ground>(
     alloc: Global,
     outside: &mut G,
     space: &mut Space,
     dir: &mut Directory,
-    step: &Step,
+    places: &Places,
 ) -> Result<(), TreeFault>
-    ensures opened { IsTrue G.tells → (records : ℕ → Option Record) (t : Map) → IsOver (G.told outside.old) space.old records → IsDirectory records (shown_directory dir.old) t
-        → MatchResult result (λ _. IsOpened records step.now (shown_directory dir.old) (shown_directory dir.new) t) (IsKept (IsDirectory records) records (shown_directory dir.old) (shown_directory dir.new) t) }
+    ensures opened { IsTrue G.tells → (records : ℕ → Option Record) (t : Map) (s : TheStep) → IsOver (G.told outside.old) space.old records → IsDirectory records (shown_directory dir.old) t → places.now ≡ sha256 s
+        → MatchResult result (λ _. IsOpened records s (shown_directory dir.old) (shown_directory dir.new) t) (IsKept (IsDirectory records) records (shown_directory dir.old) (shown_directory dir.new) t) }
     ensures looks { Looks G.tells (G.told outside.old) (G.told outside.new) space.old space.new }
     ensures counts { Counts counted_tree result (G.counts_of outside.old) (G.counts_of outside.new) }
     ensures causes { IfErr result (IsCause G.tells (G.told outside.old) space.old) }
 {
     for _ in 0..READS_MAX {
-        let Some(part) = missing(alloc, dir, step)? else {
+        let Some(part) = missing(alloc, dir, places)? else {
             return Ok(());
         };
         load_part(alloc, outside, space, dir, &part)?;
@@ -166,14 +169,16 @@ pub fn load_way<G: Ground>(
     Err(TreeFault::Memory)
 }
 
-/// Reads each part on the way to a step, and besides, where a part becomes a leaf without the step, each part below it.
+/// Reads each part on the way to a step, which has these places, and besides, where a part becomes a leaf without the step, each part below it.
 pub fn load_to_remove<G: Ground>(
     alloc: Global,
     outside: &mut G,
     space: &mut Space,
     dir: &mut Directory,
     step: &Step,
+    places: &Places,
 ) -> Result<(), TreeFault>
+    requires { places.now ≡ sha256 step.now }
     ensures opened { IsTrue G.tells → (records : ℕ → Option Record) (t : Map) → IsOver (G.told outside.old) space.old records → IsDirectory records (shown_directory dir.old) t
         → MatchResult result (λ _. IsOpened records step.now (shown_directory dir.old) (shown_directory dir.new) t × IsNeeded step.now (steps_of (entries_of t).entries) (root_of dir.new) None)
         (IsKept (IsDirectory records) records (shown_directory dir.old) (shown_directory dir.new) t) }
@@ -182,7 +187,7 @@ pub fn load_to_remove<G: Ground>(
     ensures causes { IfErr result (IsCause G.tells (G.told outside.old) space.old) }
 {
     for _ in 0..READS_MAX {
-        let Some(part) = missing_to_remove(alloc, dir, step)? else {
+        let Some(part) = missing_to_remove(alloc, dir, step, places)? else {
             return Ok(());
         };
         load_part(alloc, outside, space, dir, &part)?;

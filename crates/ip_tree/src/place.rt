@@ -1,6 +1,7 @@
 // Putting a node at a path.
-ghost use Rattle.std.specs.Prelude.{◌≡◌, ◌<◌, ℕ, true, [], List, Option, length, is_some, IsTrue, IfOk, IfErr, IsErrOf};
+ghost use Rattle.std.specs.Prelude.{◌≡◌, ◌<◌, ℕ, true, [], ◌∷◌, List, Option, length, is_some, IsTrue, IfOk, IfErr, IsErrOf};
 ghost use Rattle.std.specs.FinMap.Entries.{find, put};
+ghost use Rattle.sha2.specs.Sha256.{sha256};
 ghost use Rattle.ip_ground.specs.Counts.{Counts};
 ghost use Rattle.ip_space.specs.declared.fault.FetchFault.TheVariants as FetchFault;
 ghost use Rattle.ip_tree.specs.Faults.{counted_tree};
@@ -28,6 +29,7 @@ use ip_base::limit::ENTRIES_MAX;
 use ip_base::{Blob, Limit, Memory, Step};
 use ip_ground::Ground;
 use ip_shape::dir::{Dir, exchange, forget, insert};
+use ip_shape::places::Places as StepPlaces;
 use ip_space::Space;
 use std::alloc::Global;
 
@@ -74,12 +76,14 @@ fn place_in<G: Ground>(
     ensures counts { Counts counted_tree result (G.counts_of outside.old) (G.counts_of outside.new) }
     ensures causes { IfErr result (IsCause G.tells (G.told outside.old) space.old) }
 {
-    load_way(alloc, outside, space, dir, &steps[0])?;
-    match exchange(dir, &steps[0], vacant(alloc)) {
-        None => add(alloc, dir, steps, part),
+    let step = &steps[0];
+    let places = StepPlaces::of(step);
+    load_way(alloc, outside, space, dir, &places)?;
+    match exchange(dir, step, vacant(alloc)) {
+        None => add(alloc, dir, step, &places, &steps[1..], part),
         Some(mut node) => {
             let placed = place_at(alloc, outside, space, &mut node, &steps[1..], part);
-            put_back(alloc, dir, &steps[0], node, placed.is_ok());
+            put_back(alloc, dir, step, &places, node, placed.is_ok());
             placed
         }
     }
@@ -122,29 +126,44 @@ pub fn vacant(alloc: Global) -> Node
     Node::Contents(Blob::empty(alloc))
 }
 
-/// Puts what was edited back at its step. Where it was changed, no part on the way to it is known any more.
-pub fn put_back(alloc: Global, dir: &mut Directory, step: &Step, node: Node, is_changed: bool)
+/// Puts what was edited back at its step, which has these places. Where it was changed, no part on the way to it is known any more.
+pub fn put_back(
+    alloc: Global,
+    dir: &mut Directory,
+    step: &Step,
+    places: &StepPlaces,
+    node: Node,
+    is_changed: bool,
+)
+    requires { places.now ≡ sha256 step.now }
     ensures { (steps : List TheStep) (es : List (TheStep × Node)) → IsPartly dir.old steps es → is_some (find bytes_cmp step.now es) ≡ true →
         IsPartly dir.new steps (put bytes_cmp step.now node es) × ByTest is_changed (IsEdited 0 step.now (root_of dir.old) (root_of dir.new)) (root_of dir.new ≡ root_of dir.old) }
 {
     exchange(dir, step, node);
     if is_changed {
-        forget(alloc, dir, step);
+        forget(alloc, dir, step, places);
     }
 }
 
-/// Adds an entry for the first of the steps, with new directories from there down to the node.
-fn add(alloc: Global, dir: &mut Directory, steps: &[Step], part: Node) -> Result<(), TreeFault>
-    requires { 0 < length steps.now }
-    ensures place { (records : ℕ → Option Record) (t sub : Map) → IsDirectory records (shown_directory dir.old) t → IsNewAt steps.now (shown_directory dir.old) → NodeIs records (shown part) sub
-        → Places (IsDirectory records) records steps.now (shown part) sub (shown_directory dir.old) (shown_directory dir.new) t result }
+/// Adds an entry for a step of these places, with new directories for the steps behind it from there down to the node.
+fn add(
+    alloc: Global,
+    dir: &mut Directory,
+    step: &Step,
+    places: &StepPlaces,
+    behind: &[Step],
+    part: Node,
+) -> Result<(), TreeFault>
+    requires { places.now ≡ sha256 step.now }
+    ensures place { (records : ℕ → Option Record) (t sub : Map) → IsDirectory records (shown_directory dir.old) t → IsNewAt (step.now ∷ behind.now) (shown_directory dir.old) → NodeIs records (shown part) sub
+        → Places (IsDirectory records) records (step.now ∷ behind.now) (shown part) sub (shown_directory dir.old) (shown_directory dir.new) t result }
     ensures own { IfErr result IsOwn }
 {
     if dir.root().count() >= ENTRIES_MAX {
         return Err(TreeFault::Limit(Limit::Entries));
     }
-    let node = chain(alloc, &steps[1..], part)?;
-    insert(alloc, dir, &steps[0], node)?;
+    let node = chain(alloc, behind, part)?;
+    insert(alloc, dir, step, places, node)?;
     Ok(())
 }
 
@@ -157,6 +176,7 @@ fn chain(alloc: Global, steps: &[Step], part: Node) -> Result<Node, Memory>
     }
     let inner = chain(alloc, &steps[1..], part)?;
     let mut dir = Dir::empty(alloc);
-    insert(alloc, &mut dir, &steps[0], inner)?;
+    let step = &steps[0];
+    insert(alloc, &mut dir, step, &StepPlaces::of(step), inner)?;
     Ok(Node::Directory(dir))
 }

@@ -22,6 +22,7 @@ use crate::tree::{Root, Tree, TreeFault};
 use ip_base::Step;
 use ip_ground::Ground;
 use ip_shape::dir::{exchange, remove};
+use ip_shape::places::Places;
 use ip_space::Space;
 use std::alloc::Global;
 
@@ -100,12 +101,14 @@ fn front_in<G: Ground>(
     ensures counts { Counts counted_tree result (G.counts_of outside.old) (G.counts_of outside.new) }
     ensures causes { IfErr result (IsCause G.tells (G.told outside.old) space.old) }
 {
-    load_way(alloc, outside, space, dir, &steps[0])?;
-    match exchange(dir, &steps[0], vacant(alloc)) {
+    let step = &steps[0];
+    let places = Places::of(step);
+    load_way(alloc, outside, space, dir, &places)?;
+    match exchange(dir, step, vacant(alloc)) {
         None => Ok(Front::Nothing),
         Some(mut node) => {
             let front = front_at(alloc, outside, space, &mut node, &steps[1..]);
-            put_back(alloc, dir, &steps[0], node, false);
+            put_back(alloc, dir, step, &places, node, false);
             front
         }
     }
@@ -167,17 +170,19 @@ fn take_in<G: Ground>(
     ensures counts { Counts counted_tree result (G.counts_of outside.old) (G.counts_of outside.new) }
     ensures causes { IfErr result (IsCause G.tells (G.told outside.old) space.old) }
 {
+    let step = &steps[0];
+    let places = Places::of(step);
     if steps.len() == 1 {
-        load_to_remove(alloc, outside, space, dir, &steps[0])?;
-        remove(alloc, dir, &steps[0])?;
+        load_to_remove(alloc, outside, space, dir, step, &places)?;
+        remove(alloc, dir, step, &places)?;
         return Ok(());
     }
-    match exchange(dir, &steps[0], vacant(alloc)) {
+    match exchange(dir, step, vacant(alloc)) {
         // The front was found through a directory there, the way to which was read.
         None => Err(TreeFault::Memory),
         Some(mut node) => {
             let taken = take_at(alloc, outside, space, &mut node, &steps[1..]);
-            put_back(alloc, dir, &steps[0], node, taken.is_ok());
+            put_back(alloc, dir, step, &places, node, taken.is_ok());
             taken
         }
     }

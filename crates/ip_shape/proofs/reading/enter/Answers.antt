@@ -1,9 +1,16 @@
-use Rattle.std.proofs.Common.{◌-◌, ◌∙◌, List, ap, arith, drop, length, length-drop, map}
+use Rattle.std.proofs.Common.{◌-◌, ◌∙◌, refl, sym, List, ap, arith, drop, length, length-drop, map}
 use Rattle.std.proofs.lemmas.List.{take_all}
 use Rattle.ip_spec.specs.Path.{Step}
-use Rattle.ip_shape.specs.Directory.{entries_off}
+use Rattle.ip_shape.specs.Directory.{entries_from, entries_off}
+use Rattle.ip_shape.proofs.Entries.{from_none, nil_of}
 use Rattle.ip_shape.proofs.LeafRead.{all_off, drop_steps, new_behind}
 use Rattle.ip_shape.proofs.reading.enter.Goals as goal
+
+pub returns-then-is_empty-clause-entered : goal.returns-then-is_empty-clause-entered
+returns-then-is_empty-clause-entered g c ascends =
+    let given : List (Step × g.row.C.Denot) = c.args.entries.items in
+    let none = nil_of c.args.map.now.entries (c.if-is_empty.ensures.0 refl) in
+    c.in_ok-map.ensures ascends ∙ sym (from_none given ascends) ∙ ap (entries_from given) (sym none)
 
 pub returns-clause-refused : goal.returns-clause-refused
 returns-clause-refused g c new =

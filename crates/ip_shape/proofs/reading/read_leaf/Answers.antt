@@ -35,4 +35,5 @@ returns-clause-read g c steps old r is found are leaf =
     let put = subst (λ (p : Part g.row.R.Denot). IsEntered indexes (variant.Leaf (Some r) held) p c.entered.result) root_is (c.entered.ensures.put 0 steps r (omega arith) stands found_in) in
     let read = leaf_is_read indexes r held root c.entered.result put in
     let rest = stands_entered indexes r root steps given old (is.1, is.2, is.3) found are c.entered.result shape (leaf_reaches indexes r root c.entered.result few read) in
-    ((c.in_ok-enter.ensures.entered ∙ ap (entries_from given) is.0, rest.0, rest.1, rest.2), read)
+    let ascends = (are_new indexes r root steps given old (is.1, is.2, is.3) found are).0 in
+    ((c.in_ok-enter.ensures.entered ascends ∙ ap (entries_from given) is.0, rest.0, rest.1, rest.2), read)

@@ -1,18 +1,19 @@
 use Rattle.std.proofs.Common.{false, refl, sym, subst}
-use Rattle.ip_spec.specs.Path.{Step}
+use Rattle.std.specs.Prelude.{IfErr}
 use Rattle.ip_spec.specs.Tree.{entries_of}
 use Rattle.ip_shape.specs.Directory.{entries_in, steps_of}
 use Rattle.ip_shape.specs.declared.dir.Dir.{Dir}
-use Rattle.ip_tree.specs.Edits.{IsDirectory, IsOpened, IsSame}
+use Rattle.ip_tree.specs.Edits.{IsDirectory, IsSame}
 use Rattle.ip_tree.specs.Meaning.{NodeIs}
+use Rattle.ip_tree.specs.Reads.{IsFree}
 use Rattle.ip_tree.specs.declared.node.Node.{Node, out-Node}
 use Rattle.ip_tree.specs.Shown.{shown, shown_directory}
 use Rattle.ip_tree.specs.declared.node.Stored.{Stored}
+use Rattle.ip_tree.proofs.CallsOn.{err_is}
 use Rattle.ip_tree.proofs.Looking.{causes_on, looks_on, still_over}
 use Rattle.ip_tree.proofs.PartlyShown.{partly}
 use Rattle.ip_tree.proofs.RemovedDirectories.{back_is}
 use Rattle.ip_tree.proofs.RemovedExits.{directory_at}
-use Rattle.ip_tree.proofs.Steps.{same_first}
 use Rattle.ip_tree.proofs.Directories.{child_is}
 use Rattle.ip_three.proofs.Reaching.{itself, reached_below, reached_here, reached_through}
 use Rattle.ip_three.proofs.load.+steps.Goals as goal
@@ -41,28 +42,26 @@ load_at-returns-clause-looks g t c = looks_on _ _ _ _ _ _ _ c.in_ok-unfold.ensur
 pub load_at-returns-clause-causes : goal.load_at-returns-clause-causes
 load_at-returns-clause-causes g t c = causes_on _ _ _ _ _ c.in_ok-unfold.ensures.looks c.load_in.result c.load_in.ensures.causes
 
+pub load_in-returns-in_err-load_way-clause-same : goal.load_in-returns-in_err-load_way-clause-same
+load_in-returns-in_err-load_way-clause-same g t c tells records tree over is =
+    let kept = c.in_err-load_way.ensures.opened tells records tree c.index-steps-0.result over is c.of-places.ensures in
+    (kept.same, err_is (λ r. IfErr r IsFree) c.from_residual.result c.in_err-load_way.field-0.0 c.from_residual.ensures.1 kept.cause)
+
 pub load_in-returns-in-None-clause-same : goal.load_in-returns-in-None-clause-same
 load_in-returns-in-None-clause-same g t c tells records tree over is =
-    let q = c.args.steps.now in
-    let s = c.index-steps-0-2.result in
-    let opened =
-    subst (λ (k : Step). IsOpened records k (shown_directory c.args.dir.now) (shown_directory c.load_way.new.dir) tree) (same_first q c.index-steps-0.result s c.requires c.index-steps-0.is c.index-steps-0-2.is)
-    (c.in_ok-load_way.ensures.opened tells records tree over is) in
+    let s = c.index-steps-0.result in
+    let opened = c.in_ok-load_way.ensures.opened tells records tree s over is c.of-places.ensures in
     (reached_here records (shown_directory c.args.dir.now) c.load_way.new.dir c.exchange.new.dir tree s opened (c.in-None.ensures.same refl), tt)
 
 pub load_in-returns-in-Some-clause-same : goal.load_in-returns-in-Some-clause-same
 load_in-returns-in-Some-clause-same g t c tells records tree over is =
-    let q = c.args.steps.now in
-    let s = c.index-steps-0-2.result in
+    let s = c.index-steps-0.result in
     let d = c.load_way.new.dir in
-    let opened =
-    subst (λ (k : Step). IsOpened records k (shown_directory c.args.dir.now) (shown_directory d) tree) (same_first q c.index-steps-0.result s c.requires c.index-steps-0.is c.index-steps-0-2.is)
-    (c.in_ok-load_way.ensures.opened tells records tree over is) in
+    let opened = c.in_ok-load_way.ensures.opened tells records tree s over is c.of-places.ensures in
     let child = child_is records d tree s opened.same.means c.in-Some.node (sym c.in-Some.ensures.held) in
     let found = c.load_at-loaded.ensures.same tells records child.sub (still_over _ _ _ _ _ records c.in_ok-load_way.ensures.looks tells over) child.means in
     let back =
-    back_is d c.exchange.new.dir c.put_back.new.dir (steps_of (entries_of tree).entries) s c.index-steps-0-in-Some.result c.vacant.result c.load_at-loaded.new.node false
-    (same_first q c.index-steps-0-in-Some.result s c.requires c.index-steps-0-in-Some.is c.index-steps-0-2.is)
+    back_is d c.exchange.new.dir c.put_back.new.dir (steps_of (entries_of tree).entries) s c.vacant.result c.load_at-loaded.new.node false
     (c.in-Some.ensures.exchanged (steps_of (entries_of tree).entries) (entries_in d) (partly records d tree opened.same.means) refl) c.in-Some.ensures.known c.put_back.ensures in
     (reached_below records (shown_directory c.args.dir.now) d c.put_back.new.dir tree s opened c.in-Some.node c.load_at-loaded.new.node child back found.0, found.1)
 

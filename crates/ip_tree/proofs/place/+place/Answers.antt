@@ -1,14 +1,13 @@
-use Rattle.std.proofs.Common.{◌-◌, [], get_or, take, drop, length, refl, sym, ap, subst, ◌∙◌}
-use Rattle.std.specs.FinMap.Entries.{find}
-use Rattle.ip_spec.specs.Path.{Step, bytes_cmp}
+use Rattle.std.proofs.Common.{◌-◌, [], get_or, take, drop, length, refl, sym, subst}
 use Rattle.ip_shape.specs.declared.dir.Dir.{Dir}
 use Rattle.ip_tree.specs.Edits.{IsDirectory}
 use Rattle.ip_tree.specs.Placing.{Places}
 use Rattle.ip_tree.specs.Shown.{shown, shown_directory}
 use Rattle.ip_tree.specs.declared.node.Node.{Node, out-Node}
 use Rattle.ip_tree.specs.declared.node.Stored.{Stored}
-use Rattle.ip_tree.proofs.Steps.{by_first_lt, by_head, by_rest, nil_of, same_first}
+use Rattle.ip_tree.proofs.Steps.{by_first_lt, by_head, by_rest, nil_of}
 use Rattle.ip_tree.proofs.Looking.{causes_on, looks_on, still_over}
+use Rattle.ip_tree.proofs.PlacedNodes.{refused}
 use Rattle.ip_tree.proofs.PlacedCalls.{placed_added, placed_entry, placed_over, placed_through, placed_whole}
 use Rattle.ip_tree.proofs.place.+place.Goals as goal
 
@@ -41,24 +40,28 @@ place_at-returns-in_ok-node-in_default g t c = record {
   causes = tt;
 }
 
+pub place_in-returns-in_err-load_way-clause-place : goal.place_in-returns-in_err-load_way-clause-place
+place_in-returns-in_err-load_way-clause-place g t c tells records tree sub over means is_part =
+    let kept = c.in_err-load_way.ensures.opened tells records tree c.index-steps-0.result over means c.of-places.ensures in
+    refused (IsDirectory records) records c.args.steps.now (shown c.args.part) sub (shown_directory c.args.dir.now) (shown_directory c.load_way.new.dir) tree c.from_residual.result c.in_err-load_way.field-0.0 c.from_residual.ensures.1 kept.cause
+    kept.same
+
 pub place_in-returns-in-None-clause-place : goal.place_in-returns-in-None-clause-place
 place_in-returns-in-None-clause-place g t c tells records tree sub over means is_part =
     let p = c.args.steps.now in
-    let s = c.index-steps-0-2.result in
-    let same = same_first p c.index-steps-0.result s c.requires c.index-steps-0.is c.index-steps-0-2.is in
-    placed_added records (shown c.args.part) sub is_part c.args.dir.now c.load_way.new.dir c.exchange.new.dir c.add.new.dir tree p c.index-steps-0.result (take (length p - 1) (drop 1 p)) c.add.result
-    (by_rest p c.index-steps-0.result (by_first_lt p c.index-steps-0.result c.requires c.index-steps-0.is)) (c.in-None.ensures.same refl) (c.in_ok-load_way.ensures.opened tells records tree over means)
-    (ap (λ (k : Step). find bytes_cmp k c.load_way.new.dir.entries.entries) same ∙ sym c.in-None.ensures.held) (λ now new. c.add.ensures.place records tree sub now new is_part)
+    let s = c.index-steps-0.result in
+    placed_added records (shown c.args.part) sub is_part c.args.dir.now c.load_way.new.dir c.exchange.new.dir c.add.new.dir tree p s (take (length p - 1) (drop 1 p)) c.add.result
+    (by_rest p s (by_first_lt p s c.requires c.index-steps-0.is)) (c.in-None.ensures.same refl) (c.in_ok-load_way.ensures.opened tells records tree s over means c.of-places.ensures) (sym c.in-None.ensures.held)
+    (λ now new. c.add.ensures.place records tree sub now new is_part)
 
 pub place_in-returns-in-Some-clause-place : goal.place_in-returns-in-Some-clause-place
 place_in-returns-in-Some-clause-place g t c tells records tree sub over means is_part =
     let p = c.args.steps.now in
-    let s = c.index-steps-0-2.result in
+    let s = c.index-steps-0.result in
     let later = still_over g.G.Ground.tells (g.G.Ground.told c.args.outside.now) (g.G.Ground.told c.load_way.new.outside) c.args.space.now c.load_way.new.space records c.in_ok-load_way.ensures.looks tells over in
-    placed_entry records (shown c.args.part) sub is_part c.args.dir.now c.load_way.new.dir c.exchange.new.dir c.put_back.new.dir tree p s c.index-steps-0.result c.index-steps-0-in-Some.result (take (length p - 1) (drop 1 p))
-    c.vacant.result c.in-Some.node c.place_at-placed.new.node c.place_at-placed.result c.is_ok.result (by_rest p s (by_first_lt p s c.requires c.index-steps-0-2.is))
-    (same_first p c.index-steps-0.result s c.requires c.index-steps-0.is c.index-steps-0-2.is) (same_first p c.index-steps-0-in-Some.result s c.requires c.index-steps-0-in-Some.is c.index-steps-0-2.is) c.is_ok.ensures.value
-    (c.in_ok-load_way.ensures.opened tells records tree over means) (sym c.in-Some.ensures.held) (λ w is. c.place_at-placed.ensures.place tells records w sub later is is_part)
+    placed_entry records (shown c.args.part) sub is_part c.args.dir.now c.load_way.new.dir c.exchange.new.dir c.put_back.new.dir tree p s (take (length p - 1) (drop 1 p))
+    c.vacant.result c.in-Some.node c.place_at-placed.new.node c.place_at-placed.result c.is_ok.result (by_rest p s (by_first_lt p s c.requires c.index-steps-0.is)) c.is_ok.ensures.value
+    (c.in_ok-load_way.ensures.opened tells records tree s over means c.of-places.ensures) (sym c.in-Some.ensures.held) (λ w is. c.place_at-placed.ensures.place tells records w sub later is is_part)
     (λ steps es is. c.in-Some.ensures.exchanged steps es is refl) c.in-Some.ensures.known c.put_back.ensures
 
 pub place_in-returns-in-Some-clause-looks : goal.place_in-returns-in-Some-clause-looks

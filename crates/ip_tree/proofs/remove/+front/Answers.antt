@@ -7,7 +7,7 @@ use Rattle.ip_shape.specs.Directory.{entries_in, steps_of}
 use Rattle.ip_shape.specs.Shape.{IsPart}
 use Rattle.ip_shape.specs.declared.part.Part as shape
 use Rattle.ip_shape.specs.declared.dir.Dir.{Dir}
-use Rattle.ip_tree.specs.Edits.{IsDirectory, IsKept, IsOpened}
+use Rattle.ip_tree.specs.Edits.{IsDirectory, IsKept}
 use Rattle.ip_tree.specs.declared.node.Node.{Node, out-Node}
 use Rattle.ip_tree.specs.Removal.{FindsFront, FindsFrontAt}
 use Rattle.ip_tree.specs.Shown.{shown, shown_directory}
@@ -19,7 +19,7 @@ use Rattle.ip_tree.proofs.Looking.{causes_on, looks_on, still_over}
 use Rattle.ip_tree.proofs.PartlyShown.{partly}
 use Rattle.ip_tree.proofs.RemovedDirectories.{back_is}
 use Rattle.ip_tree.proofs.RemovedExits.{directory_at, front_at_contents, front_below, front_here, front_nowhere, front_within_above, front_written, kept_through}
-use Rattle.ip_tree.proofs.Steps.{by_first_lt, by_head, by_rest, nil_of, same_first}
+use Rattle.ip_tree.proofs.Steps.{by_first_lt, by_head, by_rest, nil_of}
 use Rattle.ip_tree.proofs.remove.+front.Goals as goal
 use Rattle.ip_tree.proofs.Directories.{child_is}
 
@@ -75,31 +75,31 @@ front_at-returns-clause-within g t c n is =
 pub front_at-returns-clause-looks : goal.front_at-returns-clause-looks
 front_at-returns-clause-looks g t c = looks_on _ _ _ _ _ _ _ c.in_ok-unfold.ensures.looks c.front_in.ensures.looks
 
+pub front_in-returns-in_err-load_way-clause-front : goal.front_in-returns-in_err-load_way-clause-front
+front_in-returns-in_err-load_way-clause-front g t c tells records tree over is =
+    err_is (λ r. FindsFront records c.args.steps.now (shown_directory c.args.dir.now) (shown_directory c.load_way.new.dir) tree r) c.from_residual.result c.in_err-load_way.field-0.0 c.from_residual.ensures.1
+    (c.in_err-load_way.ensures.opened tells records tree c.index-steps-0.result over is c.of-places.ensures)
+
 pub front_in-returns-in-None-clause-front : goal.front_in-returns-in-None-clause-front
 front_in-returns-in-None-clause-front g t c tells records tree over is =
     let q = c.args.steps.now in
-    let s = c.index-steps-0-2.result in
-    let opened =
-    subst (λ (k : Step). IsOpened records k (shown_directory c.args.dir.now) (shown_directory c.load_way.new.dir) tree) (same_first q c.index-steps-0.result s c.requires c.index-steps-0.is c.index-steps-0-2.is)
-    (c.in_ok-load_way.ensures.opened tells records tree over is) in
-    subst (λ (p : Path). FindsFront records p (shown_directory c.args.dir.now) (shown_directory c.exchange.new.dir) tree (Ok Nothing)) (sym (by_rest q s (by_first_lt q s c.requires c.index-steps-0-2.is)))
+    let s = c.index-steps-0.result in
+    let opened = c.in_ok-load_way.ensures.opened tells records tree s over is c.of-places.ensures in
+    subst (λ (p : Path). FindsFront records p (shown_directory c.args.dir.now) (shown_directory c.exchange.new.dir) tree (Ok Nothing)) (sym (by_rest q s (by_first_lt q s c.requires c.index-steps-0.is)))
     (front_nowhere records (shown_directory c.args.dir.now) c.load_way.new.dir c.exchange.new.dir tree s (take (length q - 1) (drop 1 q)) opened (sym c.in-None.ensures.held) (c.in-None.ensures.same refl))
 
 pub front_in-returns-in-Some-clause-front : goal.front_in-returns-in-Some-clause-front
 front_in-returns-in-Some-clause-front g t c tells records tree over is =
     let q = c.args.steps.now in
-    let s = c.index-steps-0-2.result in
+    let s = c.index-steps-0.result in
     let d = c.load_way.new.dir in
-    let opened =
-    subst (λ (k : Step). IsOpened records k (shown_directory c.args.dir.now) (shown_directory d) tree) (same_first q c.index-steps-0.result s c.requires c.index-steps-0.is c.index-steps-0-2.is)
-    (c.in_ok-load_way.ensures.opened tells records tree over is) in
+    let opened = c.in_ok-load_way.ensures.opened tells records tree s over is c.of-places.ensures in
     let child = child_is records d tree s opened.same.means c.in-Some.node (sym c.in-Some.ensures.held) in
     let found = c.front_at-front.ensures.front tells records child.sub (still_over _ _ _ _ _ records c.in_ok-load_way.ensures.looks tells over) child.means in
     let back =
-    back_is d c.exchange.new.dir c.put_back.new.dir (steps_of (entries_of tree).entries) s c.index-steps-0-in-Some.result c.vacant.result c.front_at-front.new.node false
-    (same_first q c.index-steps-0-in-Some.result s c.requires c.index-steps-0-in-Some.is c.index-steps-0-2.is)
+    back_is d c.exchange.new.dir c.put_back.new.dir (steps_of (entries_of tree).entries) s c.vacant.result c.front_at-front.new.node false
     (c.in-Some.ensures.exchanged (steps_of (entries_of tree).entries) (entries_in d) (partly records d tree opened.same.means) refl) c.in-Some.ensures.known c.put_back.ensures in
-    subst (λ (p : Path). FindsFront records p (shown_directory c.args.dir.now) (shown_directory c.put_back.new.dir) tree c.front_at-front.result) (sym (by_rest q s (by_first_lt q s c.requires c.index-steps-0-2.is)))
+    subst (λ (p : Path). FindsFront records p (shown_directory c.args.dir.now) (shown_directory c.put_back.new.dir) tree c.front_at-front.result) (sym (by_rest q s (by_first_lt q s c.requires c.index-steps-0.is)))
     (front_below records (shown_directory c.args.dir.now) d c.put_back.new.dir tree s (take (length q - 1) (drop 1 q)) opened c.in-Some.node c.front_at-front.new.node child back c.front_at-front.result found)
 
 pub front_in-returns-in-Some-clause-looks : goal.front_in-returns-in-Some-clause-looks

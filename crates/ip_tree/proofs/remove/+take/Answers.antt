@@ -1,11 +1,10 @@
 use Rattle.std.proofs.Common.{◌≡◌, false, ◌-◌, [], ◌∷◌, take, drop, length, refl, sym, ap, subst, ◌∙◌}
-use Rattle.std.specs.Prelude.{None, is_none}
-use Rattle.ip_spec.specs.Path.{Step, Path}
+use Rattle.std.specs.Prelude.{is_none}
+use Rattle.ip_spec.specs.Path.{Path}
 use Rattle.ip_spec.specs.Tree.{entries_of, is_empty, subtree}
-use Rattle.ip_shape.specs.Directory.{entries_in, root_of, steps_of}
-use Rattle.ip_shape.specs.Reading.{IsNeeded}
+use Rattle.ip_shape.specs.Directory.{entries_in, steps_of}
 use Rattle.ip_shape.specs.declared.dir.Dir.{Dir}
-use Rattle.ip_tree.specs.Edits.{IsDirectory, IsOpened}
+use Rattle.ip_tree.specs.Edits.{IsDirectory}
 use Rattle.ip_tree.specs.declared.node.Node.{Node, out-Node}
 use Rattle.ip_tree.specs.declared.node.Stored.{Stored}
 use Rattle.ip_tree.specs.Removal.{IsTaken, Takes, taken_front}
@@ -15,7 +14,7 @@ use Rattle.ip_tree.proofs.CallsOn.{err_is}
 use Rattle.ip_tree.proofs.PartlyShown.{partly}
 use Rattle.ip_tree.proofs.RemovedDirectories.{IsBack, back_is}
 use Rattle.ip_tree.proofs.RemovedExits.{only_step, rest_count, rest_stands, takes_out, takes_refused, takes_through, takes_under}
-use Rattle.ip_tree.proofs.Steps.{by_first_lt, by_rest, same_first}
+use Rattle.ip_tree.proofs.Steps.{by_first_lt, by_rest}
 use Rattle.ip_tree.proofs.remove.+take.Goals as goal
 use Rattle.ip_tree.proofs.Directories.{child_is, inner_directory, some_node}
 
@@ -44,13 +43,11 @@ take_in-returns-in_err-remove-clause-taken g t c tells records tree over is stan
 pub take_in-returns-then-steps-eq1-clause-taken : goal.take_in-returns-then-steps-eq1-clause-taken
 take_in-returns-then-steps-eq1-clause-taken g t c tells records tree over is stands count =
     let q = c.args.steps.now in
-    let s = c.index-steps-0-then-steps-eq1.result in
+    let s = c.index-steps-0.result in
     let d = c.load_to_remove.new.dir in
     let steps = steps_of (entries_of tree).entries in
-    let split : q ≡ s ∷ [] = only_step q s c.if-steps-eq1.true c.index-steps-0-then-steps-eq1.is in
-    let opened =
-    subst (λ (k : Step). IsOpened records k (shown_directory c.args.dir.now) (shown_directory d) tree × IsNeeded k (steps_of (entries_of tree).entries) (root_of d) None)
-    (same_first q c.index-steps-0.result s c.requires c.index-steps-0.is c.index-steps-0-then-steps-eq1.is) (c.in_ok-load_to_remove.ensures.opened tells records tree over is) in
+    let split : q ≡ s ∷ [] = only_step q s c.if-steps-eq1.true c.index-steps-0.is in
+    let opened = c.in_ok-load_to_remove.ensures.opened tells records tree over is in
     let out = c.in_ok-remove.ensures.removed steps (entries_in d) (partly records d tree opened.0.same.means) (ap is_none opened.0.way) in
     subst (λ (p : Path). IsTaken records p (shown_directory c.args.dir.now) (shown_directory c.remove.new.dir) tree) (sym split)
     (takes_out records (shown_directory c.args.dir.now) d c.remove.new.dir tree s opened.0 opened.1 (subst (λ (p : Path). is_empty (subtree tree p) ≡ false) split stands) c.in_ok-remove.field-0 out)
@@ -58,18 +55,17 @@ take_in-returns-then-steps-eq1-clause-taken g t c tells records tree over is sta
 pub take_in-returns-in-Some-clause-taken : goal.take_in-returns-in-Some-clause-taken
 take_in-returns-in-Some-clause-taken g t c tells records tree over is stands count =
     let q = c.args.steps.now in
-    let s = c.index-steps-0-2.result in
+    let s = c.index-steps-0.result in
     let d = c.args.dir.now in
     let rest = take (length q - 1) (drop 1 q) in
-    let split = by_rest q s (by_first_lt q s c.requires c.index-steps-0-2.is) in
+    let split = by_rest q s (by_first_lt q s c.requires c.index-steps-0.is) in
     let more : length (s ∷ rest) ≡ 1 → ⊥ = λ one. c.if-steps-eq1.false (ap (λ (p : Path). length p) split ∙ one) in
     let count' : length (s ∷ rest) ≡ taken_front tree (s ∷ rest) = subst (λ (p : Path). length p ≡ taken_front tree p) split count in
     let stands' : is_empty (subtree tree (s ∷ rest)) ≡ false = subst (λ (p : Path). is_empty (subtree tree p) ≡ false) split stands in
     let child = child_is records d tree s is c.in-Some.node (sym c.in-Some.ensures.held) in
     let taken = c.take_at-taken.ensures.taken tells records child.sub over child.means (rest_stands records d tree s rest c.in-Some.node child more count' stands') (rest_count records d tree s rest c.in-Some.node child more count') in
     let back =
-    back_is d c.exchange.new.dir c.put_back.new.dir (steps_of (entries_of tree).entries) s c.index-steps-0-in-Some.result c.vacant.result c.take_at-taken.new.node c.is_ok.result
-    (same_first q c.index-steps-0-in-Some.result s c.requires c.index-steps-0-in-Some.is c.index-steps-0-2.is)
+    back_is d c.exchange.new.dir c.put_back.new.dir (steps_of (entries_of tree).entries) s c.vacant.result c.take_at-taken.new.node c.is_ok.result
     (c.in-Some.ensures.exchanged (steps_of (entries_of tree).entries) (entries_in d) (partly records d tree is) refl) c.in-Some.ensures.known c.put_back.ensures in
     subst (λ (p : Path). Takes records p (shown_directory d) (shown_directory c.put_back.new.dir) tree c.take_at-taken.result) (sym split)
     (takes_under records d tree s rest c.in-Some.node child more count' c.put_back.new.dir c.take_at-taken.new.node is c.take_at-taken.result
