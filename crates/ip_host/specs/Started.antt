@@ -12,10 +12,11 @@ use Rattle.ip_host.specs.declared.starter.Held.{Held}
 use Rattle.ip_spawn.specs.declared.job.Job.{Job}
 use Rattle.ip_spawn.specs.Counts.{counted}
 
--- it is the child of this job in this folder, and its done file is looked for there
+-- it is the child of this job in this folder, its done file is looked for there, and no signal was sent to it yet
 pub record IsFor (folder : List ℕ) (task : Job) (held : Held) : Type 0 where
   pub job : held.job ≡ task
   pub done : string_bytes held.done ≡ folder ++ slash ∷ file_text (Done task.attempt)
+  pub unsignalled : held.is_signalled ≡ false
 
 -- the count of the children that the system was asked for: of one more where it was started, and else of one more at most
 abbrev pub StartsOne : Bool → ℕ → ℕ → Type 0

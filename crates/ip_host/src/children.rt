@@ -36,7 +36,7 @@ pub struct Children<R: Processes<Started = SystemProcess> + Files + Drop> {
 impl<R: Processes<Started = SystemProcess> + Files + Drop> Children<R> {
     ghost use Rattle.std.specs.Prelude.{IsSome, IsTrue, IfSome, is_ok, is_err, true};
     ghost use Rattle.ip_spawn.specs.Children.{end_reaped, held_after};
-    ghost use Rattle.ip_spawn.specs.Counts.{Counts};
+    ghost use Rattle.ip_spawn.specs.Counts.{Counts, counted};
     ghost use Rattle.ip_spawn.specs.declared.spawner.SpawnCounts.{SpawnCounts};
     ghost use Rattle.ip_host.specs.Started.{IsFor, StartsOne, HasEnded, was_signalled};
 
@@ -44,6 +44,7 @@ impl<R: Processes<Started = SystemProcess> + Files + Drop> Children<R> {
     pub fn new(rt: R, alloc: Global, program: String) -> Children<R>
         ensures held { ⟦<Children<R> as Spawner>⟧.held result ≡ None }
         ensures counts { ⟦<Children<R> as Spawner>⟧.counts_of result ≡ record { running = 0; waits = 0; reaps = 0; spawn_faults = 0 } }
+        ensures program { result.starter.program ≡ program }
     {
         Children {
             alloc,
@@ -78,6 +79,8 @@ impl<R: Processes<Started = SystemProcess> + Files + Drop> Children<R> {
     fn begin(&mut self, dir: &str, job: &Job) -> io::Result<Held>
         ensures child { IfOk result (IsFor dir.now job.now) }
         ensures one { StartsOne (is_ok result) self.old.starter.starts self.new.starter.starts }
+        ensures made { self.new.starter.made ≡ counted (is_ok result) self.old.starter.made }
+        ensures program { self.new.starter.program ≡ self.old.starter.program }
         ensures only { self.new ≡ record self.old { starter = self.new.starter } }
     {
         let command = command_of(self.alloc, self.starter.program(), dir, job)?;
@@ -130,7 +133,7 @@ impl<R: Processes<Started = SystemProcess> + Files + Drop> Children<R> {
 impl<R: Processes<Started = SystemProcess> + Files + Drop> Spawner for Children<R> {
     ghost use Rattle.std.specs.Prelude.{true, option_map, IsTrue, IsSome, IsSomeAnd, IfSome, IfNone, OnOk, is_some, is_ok, is_err};
     ghost use Rattle.ip_spawn.specs.Children.{blank, held_after_start, told_after_start, end_seen, end_reaped, is_running, held_after, told_after};
-    ghost use Rattle.ip_spawn.specs.Counts.{Counts};
+    ghost use Rattle.ip_spawn.specs.Counts.{Counts, counted};
     ghost use Rattle.ip_host.specs.Started.{IsFor, StartsOne, HasEnded, was_signalled};
 
     ghost tells = { false };
@@ -141,7 +144,8 @@ impl<R: Processes<Started = SystemProcess> + Files + Drop> Spawner for Children<
 
     ghost counts_of = { λ children. children.counts };
 
-    // The trait's clauses, and that the child is the one for this folder and job, and no other was started.
+    // The trait's clauses, and that the child is the one for this folder and job, no other was started, none where the
+    // answer is a fault, and the program stays the one that was named.
     fn start(&mut self, dir: &str, job: &Job) -> Result<(), SpawnFault>
         requires { ⟦<Children<R> as Spawner>⟧.held self.old ≡ None }
         ensures held { ⟦<Children<R> as Spawner>⟧.held self.new ≡ held_after_start job.now result }
@@ -149,6 +153,8 @@ impl<R: Processes<Started = SystemProcess> + Files + Drop> Spawner for Children<
         ensures counts { Counts false false false (is_err result) self.old.counts self.new.counts }
         ensures child { OnOk result (IfSome self.new.held (IsFor dir.now job.now)) }
         ensures one { StartsOne (is_ok result) self.old.starter.starts self.new.starter.starts }
+        ensures made { self.new.starter.made ≡ counted (is_ok result) self.old.starter.made }
+        ensures program { self.new.starter.program ≡ self.old.starter.program }
     {
         match self.begin(dir, job) {
             Ok(held) => {
@@ -163,7 +169,7 @@ impl<R: Processes<Started = SystemProcess> + Files + Drop> Spawner for Children<
     }
 
     // Here and below: the trait's clauses, that an end which is told is that of the child that was held, whether this was
-    // sent the signal, and that none was started.
+    // sent the signal, and that none was started and the program stays.
     fn look(&mut self) -> Result<Look, SpawnFault>
         requires { IsSome (⟦<Children<R> as Spawner>⟧.held self.old) }
         ensures attempt { IfSome (end_seen result) (λ reaped. ⟦<Children<R> as Spawner>⟧.held self.old ≡ Some reaped.attempt) }

@@ -1,7 +1,7 @@
 // The files of a folder. They stay open from call to call: a read of an open file takes a third of the time of one
 // that is opened for it; and where a file stays open from a write to the next sync, the system tells that sync of a
 // write that did not reach the disk.
-ghost use Rattle.std.specs.Prelude.{◌≤◌, ◌<◌, IfOk, IfSome, length, vec_len, string_bytes};
+ghost use Rattle.std.specs.Prelude.{◌≤◌, ◌<◌, IfOk, IfSome, length, slice_get, vec_len, string_bytes};
 ghost use Rattle.ip_host.specs.declared.files.TheConstants.{KEPT};
 
 use crate::names::path_of;
@@ -88,9 +88,10 @@ pub struct FolderFiles {
 }
 
 impl FolderFiles {
-    ghost use Rattle.std.specs.Prelude.{◌≡◌, OnOk, OnErr, IsTrue, IsFalse, Some};
+    ghost use Rattle.std.specs.Prelude.{◌≡◌, ◌≢◌, OnOk, OnErr, IsTrue, IsFalse, Some};
     ghost use Rattle.ip_ground.specs.declared.names.FileName.TheVariants.{Control};
     ghost use Rattle.ip_host.specs.Opened.{name_at};
+    ghost use Rattle.ip_host.specs.declared.files.Opened.{Opened};
 
     /// The files of the folder of this name. What others did to it before may not be synced.
     pub fn of<R: Files<File = File>>(alloc: Global, rt: &R, dir: &str) -> io::Result<FolderFiles>
@@ -120,6 +121,7 @@ impl FolderFiles {
     /// The same beside the store's process: the lock is not asked for.
     pub fn unlocked(mut self) -> FolderFiles
         ensures lock { IsTrue result.is_locked }
+        ensures flag { result.is_changed ≡ self.is_changed }
         ensures dir { result.dir ≡ self.dir }
     {
         self.is_locked = true;
@@ -127,9 +129,10 @@ impl FolderFiles {
     }
 
     // Whoever reads or writes the control file is the store's one process, and locks the folder against any other, unless
-    // it is a child that collects, which works beside that process.
+    // it is a child that collects, which works beside that process. No other file does that.
     fn claim(&mut self, name: FileName) -> io::Result<()>
         ensures locked { OnOk result (name ≡ Control → IsTrue self.new.is_locked) }
+        ensures others { name ≢ Control → self.new.is_locked ≡ self.old.is_locked }
         ensures flag { self.new.is_changed ≡ self.old.is_changed }
         ensures dir { self.new.dir ≡ self.old.dir }
     {
@@ -177,8 +180,20 @@ impl FolderFiles {
         if oldest.is_written {
             oldest.sync()?;
         }
-        self.kept.remove(0);
+        self.drop_oldest();
         Ok(())
+    }
+
+    // Closes it, once it has nothing left to sync.
+    fn drop_oldest(&mut self)
+        requires filled { 0 < vec_len self.old.kept }
+        requires synced { (oldest : Opened) → slice_get self.old.kept.items 0 ≡ Some oldest → IsFalse oldest.is_written }
+        ensures room { vec_len self.new.kept < KEPT }
+        ensures lock { self.new.is_locked ≡ self.old.is_locked }
+        ensures flag { self.new.is_changed ≡ self.old.is_changed }
+        ensures dir { self.new.dir ≡ self.old.dir }
+    {
+        self.kept.remove(0);
     }
 
     // Keeps a file open that was opened: where it stands then.
@@ -245,6 +260,7 @@ impl FolderFiles {
         ensures within { IfOk result (λ found. IfSome found (λ place. place < vec_len self.new.kept)) }
         ensures named { IfOk result (λ found. IfSome found (λ place. name_at self.new.kept.items place ≡ Some name)) }
         ensures locked { OnOk result (name ≡ Control → IsTrue self.new.is_locked) }
+        ensures others { name ≢ Control → self.new.is_locked ≡ self.old.is_locked }
         ensures flag { self.new.is_changed ≡ self.old.is_changed }
         ensures dir { self.new.dir ≡ self.old.dir }
     {
@@ -255,17 +271,30 @@ impl FolderFiles {
         }
     }
 
-    // The same, and it is made where it is absent: anew, so that nothing is followed that is put there meanwhile.
+    // The same, and it is made where it is absent.
     fn find_or_make<R: Files<File = File>>(&mut self, rt: &R, name: FileName) -> io::Result<usize>
         ensures within { IfOk result (λ place. place < vec_len self.new.kept) }
         ensures named { IfOk result (λ place. name_at self.new.kept.items place ≡ Some name) }
         ensures locked { OnOk result (name ≡ Control → IsTrue self.new.is_locked) }
+        ensures others { name ≢ Control → self.new.is_locked ≡ self.old.is_locked }
         ensures flag { IsTrue self.old.is_changed → IsTrue self.new.is_changed }
         ensures dir { self.new.dir ≡ self.old.dir }
     {
         if let Some(place) = self.find(rt, name)? {
             return Ok(place);
         }
+        self.make(rt, name)
+    }
+
+    // Makes the file, and keeps it open: anew, so that nothing is followed that is put there meanwhile. A name may have
+    // come, where it fails too.
+    fn make<R: Files<File = File>>(&mut self, rt: &R, name: FileName) -> io::Result<usize>
+        ensures within { IfOk result (λ place. place < vec_len self.new.kept) }
+        ensures named { IfOk result (λ place. name_at self.new.kept.items place ≡ Some name) }
+        ensures lock { self.new.is_locked ≡ self.old.is_locked }
+        ensures changed { IsTrue self.new.is_changed }
+        ensures dir { self.new.dir ≡ self.old.dir }
+    {
         self.is_changed = true;
         let path = path_of(self.alloc, self.dir.as_str(), name)?;
         let file = File::create_new(rt, path.as_str())?;
@@ -279,6 +308,7 @@ impl FolderFiles {
         name: FileName,
     ) -> io::Result<Option<u64>>
         ensures locked { OnOk result (name ≡ Control → IsTrue self.new.is_locked) }
+        ensures others { name ≢ Control → self.new.is_locked ≡ self.old.is_locked }
         ensures flag { self.new.is_changed ≡ self.old.is_changed }
         ensures dir { self.new.dir ≡ self.old.dir }
     {
@@ -298,6 +328,7 @@ impl FolderFiles {
     ) -> io::Result<usize>
         ensures fits { IfOk result (λ n. n ≤ length out.old) }
         ensures locked { OnOk result (name ≡ Control → IsTrue self.new.is_locked) }
+        ensures others { name ≢ Control → self.new.is_locked ≡ self.old.is_locked }
         ensures flag { self.new.is_changed ≡ self.old.is_changed }
         ensures dir { self.new.dir ≡ self.old.dir }
     {
@@ -316,6 +347,7 @@ impl FolderFiles {
         bytes: &[u8],
     ) -> io::Result<()>
         ensures locked { OnOk result (name ≡ Control → IsTrue self.new.is_locked) }
+        ensures others { name ≢ Control → self.new.is_locked ≡ self.old.is_locked }
         ensures flag { IsTrue self.old.is_changed → IsTrue self.new.is_changed }
         ensures dir { self.new.dir ≡ self.old.dir }
     {
@@ -328,6 +360,7 @@ impl FolderFiles {
     /// puts there is not what was compared.
     pub fn sync<R: Files<File = File>>(&mut self, rt: &R, name: FileName) -> io::Result<()>
         ensures locked { OnOk result (name ≡ Control → IsTrue self.new.is_locked) }
+        ensures others { name ≢ Control → self.new.is_locked ≡ self.old.is_locked }
         ensures synced { OnOk result (IsFalse self.new.is_changed) }
         ensures flag { OnErr result (self.new.is_changed ≡ self.old.is_changed) }
         ensures dir { self.new.dir ≡ self.old.dir }
@@ -349,6 +382,7 @@ impl FolderFiles {
     /// Removes the file, if it is there. What else stands there goes too, but a folder only where it is empty.
     pub fn remove<R: Files<File = File>>(&mut self, rt: &R, name: FileName) -> io::Result<()>
         ensures locked { OnOk result (name ≡ Control → IsTrue self.new.is_locked) }
+        ensures others { name ≢ Control → self.new.is_locked ≡ self.old.is_locked }
         ensures changed { OnOk result (IsTrue self.new.is_changed) }
         ensures flag { IsTrue self.old.is_changed → IsTrue self.new.is_changed }
         ensures dir { self.new.dir ≡ self.old.dir }

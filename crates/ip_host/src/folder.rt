@@ -1,7 +1,7 @@
 // A real folder and standard output.
 ghost use Rattle.std.specs.Prelude.{◌≡◌};
 ghost use Rattle.ip_ground.specs.Counts.{FileFault, RemoveFault, SayFault, noting};
-ghost use Rattle.ip_host.specs.Opened.{bound_of};
+ghost use Rattle.ip_host.specs.Opened.{bound_of, lock_of};
 
 use crate::causes::{Cause, Subject};
 use crate::files::FolderFiles;
@@ -44,7 +44,7 @@ pub struct Folder<R: Files<File = File> + Print + Drop> {
 }
 
 impl<R: Files<File = File> + Print + Drop> Folder<R> {
-    ghost use Rattle.std.specs.Prelude.{true, false};
+    ghost use Rattle.std.specs.Prelude.{true, false, IfSome, IsTrue};
     ghost use Rattle.ip_ground.specs.Counts.{nothing_noted};
 
     /// No folder yet, and no fault.
@@ -96,7 +96,9 @@ impl<R: Files<File = File> + Print + Drop> Folder<R> {
 
     // Counts a fault of a file call.
     fn file_fault(&mut self, call: &'static str, subject: Subject, error: &io::Error) -> GroundFault
-        ensures { FileFault (noting self.old.counts (bound_of self.old.asked self.old.files)) (noting self.new.counts (bound_of self.new.asked self.new.files)) }
+        ensures counts { FileFault (noting self.old.counts (bound_of self.old.asked self.old.files)) (noting self.new.counts (bound_of self.new.asked self.new.files)) }
+        ensures beside { self.new.is_beside ≡ self.old.is_beside }
+        ensures lock { lock_of self.new.files ≡ lock_of self.old.files }
     {
         self.keep(Cause::of(call, subject, error));
         self.counts.file_faults = self.counts.file_faults.saturating_add(1);
@@ -105,7 +107,9 @@ impl<R: Files<File = File> + Print + Drop> Folder<R> {
 
     // Counts a fault of a removal.
     fn remove_fault(&mut self, file: FileName, error: &io::Error) -> GroundFault
-        ensures { RemoveFault (noting self.old.counts (bound_of self.old.asked self.old.files)) (noting self.new.counts (bound_of self.new.asked self.new.files)) }
+        ensures counts { RemoveFault (noting self.old.counts (bound_of self.old.asked self.old.files)) (noting self.new.counts (bound_of self.new.asked self.new.files)) }
+        ensures beside { self.new.is_beside ≡ self.old.is_beside }
+        ensures lock { lock_of self.new.files ≡ lock_of self.old.files }
     {
         if self.removal.is_none() {
             self.removal = Some(Cause::of("remove", Subject::File(file), error));
@@ -116,7 +120,9 @@ impl<R: Files<File = File> + Print + Drop> Folder<R> {
 
     // Counts a fault of output.
     fn say_fault(&mut self, error: &io::Error) -> GroundFault
-        ensures { SayFault (noting self.old.counts (bound_of self.old.asked self.old.files)) (noting self.new.counts (bound_of self.new.asked self.new.files)) }
+        ensures counts { SayFault (noting self.old.counts (bound_of self.old.asked self.old.files)) (noting self.new.counts (bound_of self.new.asked self.new.files)) }
+        ensures beside { self.new.is_beside ≡ self.old.is_beside }
+        ensures lock { lock_of self.new.files ≡ lock_of self.old.files }
     {
         self.keep(Cause::of("write", Subject::Output, error));
         self.counts.say_faults = self.counts.say_faults.saturating_add(1);
@@ -132,9 +138,12 @@ impl<R: Files<File = File> + Print + Drop> Folder<R> {
         }
     }
 
-    // A child may make, change and remove the files of this attempt, or has done so.
+    // A child may make, change and remove the files of this attempt, or has done so: the next sync is of the folder too.
     fn hand_over(&mut self, attempt: u64)
-        ensures { noting self.new.counts (bound_of self.new.asked self.new.files) ≡ noting self.old.counts (bound_of self.old.asked self.old.files) }
+        ensures counts { noting self.new.counts (bound_of self.new.asked self.new.files) ≡ noting self.old.counts (bound_of self.old.asked self.old.files) }
+        ensures beside { self.new.is_beside ≡ self.old.is_beside }
+        ensures lock { lock_of self.new.files ≡ lock_of self.old.files }
+        ensures changed { IfSome self.new.files (λ files. IsTrue files.is_changed) }
     {
         if let Some(files) = &mut self.files {
             files.hand_over(attempt);
@@ -143,10 +152,12 @@ impl<R: Files<File = File> + Print + Drop> Folder<R> {
 }
 
 impl<R: Files<File = File> + Print + Drop> Ground for Folder<R> {
-    ghost use Rattle.std.specs.Prelude.{false, IsTrue, IsFalse, OnOk, IsSomeAnd};
-    ghost use Rattle.ip_ground.specs.Told.{silent};
-    ghost use Rattle.ip_ground.specs.Calls.{Passes, Syncs};
-    ghost use Rattle.ip_ground.specs.Counts.{Attaches, CountsAs};
+    ghost use Rattle.std.specs.Prelude.{◌≢◌, ◌≤◌, ℕ, length, false, IsTrue, IsFalse, OnOk, IfOk, IfSome, IsSomeAnd};
+    ghost use Rattle.ip_ground.specs.declared.names.FileName.TheVariants.{Control};
+    ghost use Rattle.ip_ground.specs.Contents.{size_of};
+    ghost use Rattle.ip_ground.specs.Told.{silent, Only, NoFile, ChangesOnly};
+    ghost use Rattle.ip_ground.specs.Calls.{Passes, Measures, Reads, Writes, Syncs, Removes, Lends, Settles, Says};
+    ghost use Rattle.ip_ground.specs.Counts.{Attaches, CountsAs, DamageFound};
     ghost use Rattle.ip_ground.specs.Failing.{Refuses};
 
     ghost tells = { false };
@@ -159,13 +170,15 @@ impl<R: Files<File = File> + Print + Drop> Ground for Folder<R> {
 
     ghost possible = { λ _ _ file. tt };
 
-    // The trait's clauses, and that the lock is not held yet: it is to be asked for, but by one that is beside.
+    // The trait's clauses, that the lock is not held yet: it is to be asked for, but by one that is beside, which no
+    // call becomes; and that the next sync is of the folder too.
     fn attach(&mut self, dir: &str) -> Result<(), GroundFault>
         ensures does { IsTrue ⟦<Folder<R> as Ground>⟧.tells → Passes result (⟦<Folder<R> as Ground>⟧.told self.old) (⟦<Folder<R> as Ground>⟧.told self.new) }
         ensures counts { Attaches dir.now result (⟦<Folder<R> as Ground>⟧.counts_of self.old) (⟦<Folder<R> as Ground>⟧.counts_of self.new) }
         ensures refused { Refuses result (⟦<Folder<R> as Ground>⟧.refuses self.old) (⟦<Folder<R> as Ground>⟧.refuses self.new) }
         ensures lock { OnOk result (IsSomeAnd self.new.files (λ files. files.is_locked ≡ self.old.is_beside)) }
-        ensures beside { OnOk result (self.new.is_beside ≡ self.old.is_beside) }
+        ensures beside { self.new.is_beside ≡ self.old.is_beside }
+        ensures changed { OnOk result (IsSomeAnd self.new.files (λ files. IsTrue files.is_changed)) }
     {
         self.asked = self.asked.then(&FolderName(dir));
         self.files = None;
@@ -183,7 +196,17 @@ impl<R: Files<File = File> + Print + Drop> Ground for Folder<R> {
         }
     }
 
-    fn length(&mut self, file: FileName) -> Result<Option<u64>, GroundFault> {
+    // Here and below: the trait's clauses, that it is beside another process or not as before, and that the lock is asked
+    // for by a call on the control file alone. Where such a call is Ok the lock is held, or not to be asked for; and each
+    // call on a file that is Ok has a folder.
+    fn length(&mut self, file: FileName) -> Result<Option<u64>, GroundFault>
+        ensures does { IsTrue ⟦<Folder<R> as Ground>⟧.tells → Measures file result (⟦<Folder<R> as Ground>⟧.told self.old) (⟦<Folder<R> as Ground>⟧.told self.new) }
+        ensures counts { CountsAs FileFault result (⟦<Folder<R> as Ground>⟧.counts_of self.old) (⟦<Folder<R> as Ground>⟧.counts_of self.new) }
+        ensures refused { Refuses result (⟦<Folder<R> as Ground>⟧.refuses self.old) (⟦<Folder<R> as Ground>⟧.refuses self.new) }
+        ensures beside { self.new.is_beside ≡ self.old.is_beside }
+        ensures lock { file ≢ Control → lock_of self.new.files ≡ lock_of self.old.files }
+        ensures held { OnOk result (IsSomeAnd self.new.files (λ files. file ≡ Control → IsTrue files.is_locked)) }
+    {
         let length = match &mut self.files {
             Some(files) => files.length(&self.rt, file),
             None => Err(unattached()),
@@ -194,7 +217,15 @@ impl<R: Files<File = File> + Print + Drop> Ground for Folder<R> {
         }
     }
 
-    fn read(&mut self, file: FileName, at: u64, out: &mut [u8]) -> Result<usize, GroundFault> {
+    fn read(&mut self, file: FileName, at: u64, out: &mut [u8]) -> Result<usize, GroundFault>
+        ensures does { IsTrue ⟦<Folder<R> as Ground>⟧.tells → Reads file at out.old out.new result (⟦<Folder<R> as Ground>⟧.told self.old) (⟦<Folder<R> as Ground>⟧.told self.new) }
+        ensures fits { IfOk result (λ n. n ≤ length out.old) }
+        ensures counts { CountsAs FileFault result (⟦<Folder<R> as Ground>⟧.counts_of self.old) (⟦<Folder<R> as Ground>⟧.counts_of self.new) }
+        ensures refused { Refuses result (⟦<Folder<R> as Ground>⟧.refuses self.old) (⟦<Folder<R> as Ground>⟧.refuses self.new) }
+        ensures beside { self.new.is_beside ≡ self.old.is_beside }
+        ensures lock { file ≢ Control → lock_of self.new.files ≡ lock_of self.old.files }
+        ensures held { OnOk result (IsSomeAnd self.new.files (λ files. file ≡ Control → IsTrue files.is_locked)) }
+    {
         let read = match &mut self.files {
             Some(files) => files.read(&self.rt, file, at, out),
             None => Err(unattached()),
@@ -205,7 +236,15 @@ impl<R: Files<File = File> + Print + Drop> Ground for Folder<R> {
         }
     }
 
-    fn write(&mut self, file: FileName, at: u64, bytes: &[u8]) -> Result<(), GroundFault> {
+    fn write(&mut self, file: FileName, at: u64, bytes: &[u8]) -> Result<(), GroundFault>
+        ensures does { IsTrue ⟦<Folder<R> as Ground>⟧.tells → at ≤ size_of ((⟦<Folder<R> as Ground>⟧.told self.old).held file) → Writes file at bytes.now result (⟦<Folder<R> as Ground>⟧.told self.old) (⟦<Folder<R> as Ground>⟧.told self.new) }
+        ensures only { IsTrue ⟦<Folder<R> as Ground>⟧.tells → ChangesOnly (Only file) (⟦<Folder<R> as Ground>⟧.told self.old) (⟦<Folder<R> as Ground>⟧.told self.new) }
+        ensures counts { CountsAs FileFault result (⟦<Folder<R> as Ground>⟧.counts_of self.old) (⟦<Folder<R> as Ground>⟧.counts_of self.new) }
+        ensures refused { Refuses result (⟦<Folder<R> as Ground>⟧.refuses self.old) (⟦<Folder<R> as Ground>⟧.refuses self.new) }
+        ensures beside { self.new.is_beside ≡ self.old.is_beside }
+        ensures lock { file ≢ Control → lock_of self.new.files ≡ lock_of self.old.files }
+        ensures held { OnOk result (IsSomeAnd self.new.files (λ files. file ≡ Control → IsTrue files.is_locked)) }
+    {
         let fits = at.saturating_add(bytes.len() as u64) <= self.size_max;
         let written = match &mut self.files {
             Some(_) if !fits => Err(io::Error::from(ErrorKind::FileTooLarge)),
@@ -218,12 +257,15 @@ impl<R: Files<File = File> + Print + Drop> Ground for Folder<R> {
         }
     }
 
-    // The trait's clauses, and that the folder was synced where a name may have come or gone.
+    // Besides, the folder was synced where a name may have come or gone.
     fn sync(&mut self, file: FileName) -> Result<(), GroundFault>
         ensures does { IsTrue ⟦<Folder<R> as Ground>⟧.tells → Syncs file result (⟦<Folder<R> as Ground>⟧.told self.old) (⟦<Folder<R> as Ground>⟧.told self.new) }
         ensures counts { CountsAs FileFault result (⟦<Folder<R> as Ground>⟧.counts_of self.old) (⟦<Folder<R> as Ground>⟧.counts_of self.new) }
         ensures refused { Refuses result (⟦<Folder<R> as Ground>⟧.refuses self.old) (⟦<Folder<R> as Ground>⟧.refuses self.new) }
         ensures synced { OnOk result (IsSomeAnd self.new.files (λ files. IsFalse files.is_changed)) }
+        ensures beside { self.new.is_beside ≡ self.old.is_beside }
+        ensures lock { file ≢ Control → lock_of self.new.files ≡ lock_of self.old.files }
+        ensures held { OnOk result (IsSomeAnd self.new.files (λ files. file ≡ Control → IsTrue files.is_locked)) }
     {
         let synced = match &mut self.files {
             Some(files) => files.sync(&self.rt, file),
@@ -235,7 +277,14 @@ impl<R: Files<File = File> + Print + Drop> Ground for Folder<R> {
         }
     }
 
-    fn remove(&mut self, file: FileName) -> Result<(), GroundFault> {
+    fn remove(&mut self, file: FileName) -> Result<(), GroundFault>
+        ensures does { IsTrue ⟦<Folder<R> as Ground>⟧.tells → Removes file result (⟦<Folder<R> as Ground>⟧.told self.old) (⟦<Folder<R> as Ground>⟧.told self.new) }
+        ensures counts { CountsAs RemoveFault result (⟦<Folder<R> as Ground>⟧.counts_of self.old) (⟦<Folder<R> as Ground>⟧.counts_of self.new) }
+        ensures refused { Refuses result (⟦<Folder<R> as Ground>⟧.refuses self.old) (⟦<Folder<R> as Ground>⟧.refuses self.new) }
+        ensures beside { self.new.is_beside ≡ self.old.is_beside }
+        ensures lock { file ≢ Control → lock_of self.new.files ≡ lock_of self.old.files }
+        ensures held { OnOk result (IsSomeAnd self.new.files (λ files. file ≡ Control → IsTrue files.is_locked)) }
+    {
         let removed = match &mut self.files {
             Some(files) => files.remove(&self.rt, file),
             None => Err(unattached()),
@@ -246,13 +295,30 @@ impl<R: Files<File = File> + Print + Drop> Ground for Folder<R> {
         }
     }
 
-    fn lend(&mut self, attempt: u64) -> Result<(), GroundFault> {
+    // Behind it the next sync is of the folder too.
+    fn lend(&mut self, attempt: u64) -> Result<(), GroundFault>
+        ensures does { IsTrue ⟦<Folder<R> as Ground>⟧.tells → Lends attempt result (⟦<Folder<R> as Ground>⟧.told self.old) (⟦<Folder<R> as Ground>⟧.told self.new) }
+        ensures counts { CountsAs FileFault result (⟦<Folder<R> as Ground>⟧.counts_of self.old) (⟦<Folder<R> as Ground>⟧.counts_of self.new) }
+        ensures refused { Refuses result (⟦<Folder<R> as Ground>⟧.refuses self.old) (⟦<Folder<R> as Ground>⟧.refuses self.new) }
+        ensures beside { self.new.is_beside ≡ self.old.is_beside }
+        ensures lock { lock_of self.new.files ≡ lock_of self.old.files }
+        ensures changed { OnOk result (IfSome self.new.files (λ files. IsTrue files.is_changed)) }
+    {
         self.hand_over(attempt);
         Ok(())
     }
 
     // Of a child that failed no file is looked at: a sweep follows, and until then what is no plain file counts as absent.
-    fn settle(&mut self, attempt: u64, reaped: &Reaped) -> Result<(), GroundFault> {
+    // Behind it the next sync is of the folder too.
+    fn settle(&mut self, attempt: u64, reaped: &Reaped) -> Result<(), GroundFault>
+        requires { reaped.now.attempt ≡ attempt }
+        ensures does { IsTrue ⟦<Folder<R> as Ground>⟧.tells → Settles attempt result (⟦<Folder<R> as Ground>⟧.told self.old) (⟦<Folder<R> as Ground>⟧.told self.new) }
+        ensures counts { CountsAs FileFault result (⟦<Folder<R> as Ground>⟧.counts_of self.old) (⟦<Folder<R> as Ground>⟧.counts_of self.new) }
+        ensures refused { Refuses result (⟦<Folder<R> as Ground>⟧.refuses self.old) (⟦<Folder<R> as Ground>⟧.refuses self.new) }
+        ensures beside { self.new.is_beside ≡ self.old.is_beside }
+        ensures lock { lock_of self.new.files ≡ lock_of self.old.files }
+        ensures changed { OnOk result (IfSome self.new.files (λ files. IsTrue files.is_changed)) }
+    {
         self.hand_over(attempt);
         if reaped.exit != Exit::Code(0) {
             return Ok(());
@@ -270,14 +336,26 @@ impl<R: Files<File = File> + Print + Drop> Ground for Folder<R> {
         }
     }
 
-    fn say(&mut self, bytes: &[u8]) -> Result<(), GroundFault> {
+    fn say(&mut self, bytes: &[u8]) -> Result<(), GroundFault>
+        ensures does { IsTrue ⟦<Folder<R> as Ground>⟧.tells → Says bytes.now result (⟦<Folder<R> as Ground>⟧.told self.old) (⟦<Folder<R> as Ground>⟧.told self.new) }
+        ensures counts { CountsAs SayFault result (⟦<Folder<R> as Ground>⟧.counts_of self.old) (⟦<Folder<R> as Ground>⟧.counts_of self.new) }
+        ensures refused { Refuses result (⟦<Folder<R> as Ground>⟧.refuses self.old) (⟦<Folder<R> as Ground>⟧.refuses self.new) }
+        ensures beside { self.new.is_beside ≡ self.old.is_beside }
+        ensures lock { lock_of self.new.files ≡ lock_of self.old.files }
+    {
         match self.rt.write_all(bytes) {
             Ok(()) => Ok(()),
             Err(error) => Err(self.say_fault(&error)),
         }
     }
 
-    fn note_damage(&mut self) {
+    fn note_damage(&mut self)
+        ensures does { IsTrue ⟦<Folder<R> as Ground>⟧.tells → ChangesOnly NoFile (⟦<Folder<R> as Ground>⟧.told self.old) (⟦<Folder<R> as Ground>⟧.told self.new) }
+        ensures counts { DamageFound (⟦<Folder<R> as Ground>⟧.counts_of self.old) (⟦<Folder<R> as Ground>⟧.counts_of self.new) }
+        ensures refused { (n : ℕ) → ⟦<Folder<R> as Ground>⟧.refuses self.new n ≡ ⟦<Folder<R> as Ground>⟧.refuses self.old n }
+        ensures beside { self.new.is_beside ≡ self.old.is_beside }
+        ensures lock { lock_of self.new.files ≡ lock_of self.old.files }
+    {
         self.counts.damages = self.counts.damages.saturating_add(1);
     }
 

@@ -73,10 +73,13 @@ pub struct Starter<R: Processes<Started = SystemProcess> + Files + Drop> {
     program: String,
     // how many children the system was asked for
     starts: u64,
+    // how many of them were started
+    made: u64,
 }
 
 impl<R: Processes<Started = SystemProcess> + Files + Drop> Starter<R> {
     ghost use Rattle.std.specs.Prelude.{is_ok};
+    ghost use Rattle.ip_spawn.specs.Counts.{counted};
     ghost use Rattle.ip_host.specs.Started.{IsFor, StartsOne};
 
     pub fn new(rt: R, alloc: Global, program: String) -> Starter<R>
@@ -87,6 +90,7 @@ impl<R: Processes<Started = SystemProcess> + Files + Drop> Starter<R> {
             alloc,
             program,
             starts: 0,
+            made: 0,
         }
     }
 
@@ -108,12 +112,14 @@ impl<R: Processes<Started = SystemProcess> + Files + Drop> Starter<R> {
         requires vars { (name : List ℕ) → command_var command.now name ≡ None }
         ensures child { IfOk result (IsFor dir.now job.now) }
         ensures one { StartsOne (is_ok result) self.old.starts self.new.starts }
-        ensures same { self.new ≡ record self.old { starts = self.new.starts } }
+        ensures made { self.new.made ≡ counted (is_ok result) self.old.made }
+        ensures same { self.new ≡ record self.old { starts = self.new.starts; made = self.new.made } }
     {
         let done = path_of(self.alloc, dir, FileName::Done(job.attempt))?;
         let none = Stdio::null();
         self.starts = self.starts.saturating_add(1);
         let child = self.rt.spawn(command, &none, &none, &none)?;
+        self.made = self.made.saturating_add(1);
         Ok(Held {
             job: *job,
             child,

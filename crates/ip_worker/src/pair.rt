@@ -11,6 +11,7 @@ ghost use Rattle.ip_space.specs.SpaceView.{AreBelow, byte_at};
 ghost use Rattle.ip_keep.specs.Runs.{joined};
 ghost use Rattle.ip_worker.specs.Faults.{counted_work};
 ghost use Rattle.ip_worker.specs.declared.fault.WorkFault.TheVariants as WorkFault;
+ghost use Rattle.ip_worker.specs.declared.pair.TheConstants.{PIECE};
 ghost use Rattle.ip_worker.specs.Steps.{IsFor, IsFree, IsPairFile, IsReady, Copies, CopiesRuns, IsCounted, WritesPair};
 
 use crate::attempt::sync_pair;
@@ -140,9 +141,9 @@ fn total_of(runs: &[Run]) -> u64
     sum
 }
 
-// How many of so many bytes are copied at once: one at least, so that a copy gets on.
+// How many of so many bytes are copied at once: one at least, so that a copy gets on, and no more than a piece.
 fn room_for(bytes: u64) -> usize
-    ensures { 0 < result }
+    ensures { (0 < result) × (result ≤ PIECE) }
 {
     if bytes == 0 {
         return 1;
@@ -152,6 +153,7 @@ fn room_for(bytes: u64) -> usize
 
 // A buffer of so many bytes.
 fn zeros(alloc: Global, size: usize) -> Result<Vec<u8>, Memory>
+    requires { size ≤ PIECE }
     ensures { IfOk result (λ buffer. length buffer.items ≡ size) }
 {
     Ok(vec![in alloc; 0; size]?)
