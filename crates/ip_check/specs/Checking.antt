@@ -8,7 +8,7 @@
 --     IsChecking records found c      what it has found of these records and of these files
 --     Says records job found result      what an answer says.      Advances most old new result      how far a slice goes
 --     SameCheck old new      it is the check of the same job, in the same space.      IsFixed told job      what is to stay as it is
---     FewLooks      law: how many looks there are at most.      LooksAll      law: and at least where the verdict is there.      Accepts      law: the valid pair is accepted
+--     FewLooks      law: how many looks there are at most.      LooksAll      law: and at least where the verdict is there.      LooksAtAll records job looks      so many looks are enough for a valid pair.      LooksTwice      law: so many were made where it was found.      Accepts      law: the valid pair is accepted
 use Rattle.std.specs.Prelude.{◌≡◌, ◌≢◌, ℕ, ◌+◌, ◌*◌, ◌<◌, ◌≤◌, List, [], length, take, drop, slice_get, count_by, Option, Some, None, Result, Ok, Err}
 use Rattle.ip_ground.specs.declared.names.FileName.TheVariants.{Mapping, Prefix}
 use Rattle.ip_ground.specs.Contents.{Image}
@@ -161,6 +161,15 @@ FewLooks = (image : Image) (records : Records) (found : Found) (c : CheckView) �
 abbrev pub LooksAll : Type 0
 LooksAll = (records : Records) (found : Found) (c : CheckView) (told : Option Difference) → IsCheck c → IsChecking records found c → c.stage ≡ Stage.Through told →
     count_by (starts_between c.job.horizon c.job.end) records ≤ looked_by c
+
+-- the looks at all records from the horizon on, and two at each that is kept
+abbrev pub LooksAtAll : Records → Job → ℕ → Type 0
+LooksAtAll records job looks = (kept : Records) → IsKept records job.horizon job.end kept → count_by (starts_between job.horizon job.end) records + 2 * length kept ≤ looks
+
+-- where the pair was found to be valid each of these was made
+abbrev pub LooksTwice : Type 0
+LooksTwice = (image : Image) (records : Records) (found : Found) (c : CheckView) → AreRecords image c.keep.space c.keep.horizon records → IsCheck c → IsChecking records found c → c.stage ≡ Stage.Through None →
+    LooksAtAll records c.job (looked_by c)
 
 -- where the valid pair was found, nothing differs
 abbrev pub Accepts : Type 0

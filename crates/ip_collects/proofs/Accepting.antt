@@ -1,6 +1,6 @@
 -- A collection that is accepted.
 --     runs_through, check_through      the collection, and its check that is through
---     refused_so, refused_tables, refused_counts      why no swap was planned, and what becomes of the tables and of counts then.      turned_safe, refused_rootless      whether damage was found, and where.      undamaged      a commit's record never lies at 0
+--     refused_so, refused_tables, refused_counts      why no swap was planned, and what becomes of the tables and of counts then.      refused_sequence, refused_room      only where the sequence goes on memory was wanted.      turned_safe, refused_rootless      whether damage was found, and where.      undamaged      a commit's record never lies at 0
 --     accepts_tables, slot_of_swap      the tables of a swap that was made, and its slot
 --     going_on      once its pair was synced the store holds what it held
 --     accepts_none, sync_cut, swap_cut, accepts      what each way out does to what is told
@@ -124,6 +124,10 @@ refused_tables store r c FinishFault.Memory refused = refl
 -- memory is wanted only where the sequence goes on
 pub refused_sequence : (store : Held) (c : Collection) (fault : FinishFault) → RefusesSwap store c fault → ◌≡◌ {A = Result (Unit {0}) FinishFault} (Err fault) (Err FinishFault.Memory) → store.slot.sequence < OFFSET_MAX
 refused_sequence store c fault refused is = (let same : fault ≡ FinishFault.Memory = cc (is) in subst (RefusesSwap store c) same refused)
+
+-- and no fault of the ground is among them
+pub refused_room : (store : Held) (c : Collection) (fault : FinishFault) → RefusesSwap store c fault → ◌≡◌ {A = Result (Unit {0}) FinishFault} (Err fault) (Err FinishFault.Ground) → store.slot.sequence < OFFSET_MAX
+refused_room store c fault refused is = (let same : fault ≡ FinishFault.Ground = cc (is) in absurd (subst (RefusesSwap store c) same refused))
 
 -- and of what is counted
 pub refused_counts : (store : Held) (c : Collection) (fault : FinishFault) (k l : Noted) → RefusesSwap store c fault → (IsUndamaged {A = Unit {0}} (Err fault) → l ≡ k) → ((¬ IsUndamaged {A = Unit {0}} (Err fault)) → DamageFound k l) → CountsIf (counted_finish fault) k l
@@ -388,7 +392,7 @@ module _ (store : Held) (r : Repository) (b : Told) (held : Holds store b r) (c 
     pub either_at : IsFirm b → NothingPending b → (t : ℕ) → b.moment < t → t ≤ d.moment → RecoversToEither (crash_at d t) r (collected_at r c.commit)
     either_at firm pending t late le =
         either_stands (crash_at d t) store.index (1 - store.index) store.slot next b.held held.tables.slot next_is swaps
-        (both_at b d store.index (1 - store.index) store.slot next gate.only (held_has store r b held) old_live gate.live (firm_pair firm) pending t late le)
+        (both_at b d store.index (1 - store.index) store.slot next gate.changes.only (held_has store r b held) old_live gate.live (firm_pair firm) pending t late le)
         r (collected_at r c.commit) held.stands (held_has store r b held) (λ image live same. (collected image live same).0)
 
     -- each image stands by the records that there were, or by those that remain
@@ -396,7 +400,7 @@ module _ (store : Held) (r : Repository) (b : Told) (held : Holds store b r) (c 
     left_at firm pending s has t late le image possible =
         let old = held_has store r b held in
         elim (either_left (crash_at d t) store.index (1 - store.index) store.slot next b.held held.tables.slot next_is swaps
-        (both_at b d store.index (1 - store.index) store.slot next gate.only old old_live gate.live (firm_pair firm) pending t late le) image possible) [
+        (both_at b d store.index (1 - store.index) store.slot next gate.changes.only old old_live gate.live (firm_pair firm) pending t late le) image possible) [
           | inl it ↦ inl (subst (λ (u : Slot). StandsBy held.stands.standing.records u.horizon image) (one_slot store.slot s b.held old has) (by_same b.held image store.slot r held.stands old it.0 it.1))
           | inr it ↦ inr (pair.valid.kept, pair.valid.each, swapped_by image it.0 it.1)
         ]
@@ -405,10 +409,10 @@ module _ (store : Held) (r : Repository) (b : Told) (held : Holds store b r) (c 
 
   module _ (d : Told) (gate : TurnsGate (1 - store.index) next (Ok tt) b d) (files : Image) (settled : IsSettledAs b c.job.attempt files) where
     mapping : KeepsFile b d (Mapping c.job.attempt)
-    mapping = gate.only.others (Mapping c.job.attempt) (λ is. cc (is))
+    mapping = gate.changes.only.others (Mapping c.job.attempt) (λ is. cc (is))
 
     prefix : KeepsFile b d (Prefix c.job.attempt)
-    prefix = gate.only.others (Prefix c.job.attempt) (λ is. cc (is))
+    prefix = gate.changes.only.others (Prefix c.job.attempt) (λ is. cc (is))
 
     own_mapping : ¬ IsForeign b (Mapping c.job.attempt)
     own_mapping = own_settled c.job.attempt b files (Mapping c.job.attempt) settled refl
@@ -417,7 +421,7 @@ module _ (store : Held) (r : Repository) (b : Told) (held : Holds store b r) (c 
     own_prefix = own_settled c.job.attempt b files (Prefix c.job.attempt) settled refl
 
     chunk : (n : ℕ) → d.held (Chunk n) ≡ b.held (Chunk n)
-    chunk n = (gate.only.others (Chunk n) (λ is. cc (is))).held (λ x. x)
+    chunk n = (gate.changes.only.others (Chunk n) (λ is. cc (is))).held (λ x. x)
 
     space_then : SameSpace next b.held d.held
     unfolding chunk_byte
@@ -480,7 +484,7 @@ module _ (store : Held) (r : Repository) (b : Told) (held : Holds store b r) (c 
     pub serves_then : b.held (Mapping c.job.attempt) ≡ files (Mapping c.job.attempt) → b.held (Prefix c.job.attempt) ≡ files (Prefix c.job.attempt) → Serves d c.job.attempt
     serves_then was_mapping was_prefix = record {
       pair = files;
-      settled = settled_stays c.job.attempt b d files (Only Control) settled gate.only;
+      settled = settled_stays c.job.attempt b d files (Only Control) settled gate.changes.only;
       mapping = mapping.held own_mapping ∙ was_mapping;
       prefix = prefix.held own_prefix ∙ was_prefix;
     }
@@ -509,25 +513,25 @@ module _ (store : Held) (r : Repository) (a : Told) (held : Holds store a r) (c 
 
   module _ (d : Told) (res : Result (Unit {0}) GroundFault) (gate : TurnsGate (1 - store.index) swap.slot res b d) where
     gate_files : KeepsFiles b d
-    gate_files = keeps_store b d (Only Control) (λ file same. inl same) gate.only
+    gate_files = keeps_store b d (Only Control) (λ file same. inl same) gate.changes.only
 
     only : EndsFor c.job.attempt (Only Control) a d
-    only = ends_on c.job.attempt (Only Control) a b d (ends_more c.job.attempt NoFile a b (Only Control) (λ file none. absurd none) sync.only) (ends_only c.job.attempt (Only Control) b d gate.only gate_files)
+    only = ends_on c.job.attempt (Only Control) a b d (ends_more c.job.attempt NoFile a b (Only Control) (λ file none. absurd none) sync.only) (ends_only c.job.attempt (Only Control) b d gate.changes.only gate_files)
 
     files : KeepsFiles a d
     files = keeps_on a b d sync.files gate_files
 
     atomic : NothingPending a → IsAtomic a d r (collected_at r c.commit)
-    atomic pending = atomic_front r (collected_at r c.commit) a b d gate.only.goes (recovers_at store r a held c runs b sync.only pending)
+    atomic pending = atomic_front r (collected_at r c.commit) a b d gate.changes.only.goes (recovers_at store r a held c runs b sync.only pending)
         (either_at store r b then c runs swap.slot next_is (joined check.keep.kept) pair_then d res gate (sync.kept, sync.firm) (pending_then store r a held c runs b sync.only pending))
 
     leaves : NothingPending a → LeavesSwapped held.stands.standing.records c a d
-    leaves pending = swapped_front held.stands.standing.records c a b d gate.only.goes (live_then store r a held c runs b sync.only) (leaves_then store r a held c runs b sync.only pending)
+    leaves pending = swapped_front held.stands.standing.records c a b d gate.changes.only.goes (live_then store r a held c runs b sync.only) (leaves_then store r a held c runs b sync.only pending)
         (subst (λ (rs : Records). LeavesSwapped rs c b d) (same_records store r a held c runs b sync.only then.stands.standing)
         (left_at store r b then c runs swap.slot next_is (joined check.keep.kept) pair_then d res gate (sync.kept, sync.firm) (pending_then store r a held c runs b sync.only pending)))
 
     slots : KeepsSlots a d
-    slots = slots_then a b d held.kept (sync.only.beside.others Control (λ none. none) (λ of. of)) gate.only.goes (slots_turned b d store.slot swap.slot (held_has store r b then) follows (1 - store.index) next_is res gate)
+    slots = slots_then a b d held.kept (sync.only.beside.others Control (λ none. none) (λ of. of)) gate.changes.only.goes (slots_turned b d store.slot swap.slot (held_has store r b then) follows (1 - store.index) next_is res gate)
 
     flushed : NothingPending a → AllFlushed (crash_now d)
     flushed pending = elim (cases_lt a.moment d.moment) [

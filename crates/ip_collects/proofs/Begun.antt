@@ -19,13 +19,14 @@ use Rattle.ip_spec.specs.declared.event.Event.{Event}
 use Rattle.ip_spec.specs.declared.event.Event.TheVariants as Event
 use Rattle.ip_spec.specs.declared.record.Record.{Record}
 use Rattle.ip_spec.specs.Core.{Core, CorePhase, CoreRun, core_of, with_phase}
-use Rattle.ip_spec.specs.Record.{Names, spelling}
+use Rattle.ip_spec.specs.Record.{Names, spelling, spelling_of}
 use Rattle.ip_spawn.specs.declared.job.Job.{Job}
 use Rattle.ip_spec.specs.Map.{get}
 use Rattle.ip_spec.specs.Path.{Bytes}
 use Rattle.ip_spec.specs.Repository.{Repository, is_retained}
 use Rattle.ip_spec.specs.Step.{held_branch}
 use Rattle.ip_spec.specs.TreeAt.{Records}
+use Rattle.ip_image.specs.Appending.{bytes_of_records}
 use Rattle.ip_image.specs.Collected.{HasTable, IsCollectable, offsets_of}
 use Rattle.ip_image.specs.Collection.{Pair, IsValid}
 use Rattle.ip_image.proofs.CoreTies.{collection_starts, image_rises, some_valid}
@@ -45,12 +46,12 @@ use Rattle.ip_held.specs.declared.held.Held.{Held}
 use Rattle.ip_held.specs.Changes.{Changes}
 use Rattle.ip_held.specs.Collecting.{IsAbove, IsGoing, Collects}
 use Rattle.ip_held.specs.Fronts.{ComesOf, LeavesFront}
-use Rattle.ip_publish.specs.Publishing.{IsOfStore, MayChange}
+use Rattle.ip_publish.specs.Publishing.{IsOfStore, IsWritten, MayChange, WritesTo}
 use Rattle.ip_held.specs.Placed.{IsCommitAt}
 use Rattle.ip_held.specs.StandsBy.{StandsBy}
 use Rattle.ip_held.specs.Step.{slot_behind, HasRoom, IsStep, MayTake, Took}
 use Rattle.ip_held.specs.TableRecord.{branch_row, table_of}
-use Rattle.ip_collects.specs.Starting.{begun, IsBegun, IsStart, StartsCollection, new_collection}
+use Rattle.ip_collects.specs.Starting.{begun, end_behind, IsBegun, IsStart, StartsCollection, new_collection}
 use Rattle.ip_held.specs.Held.{IsOf, Holds, image_records, place_of_commit}
 use Rattle.ip_held.specs.Sweeping.{IsApart, ChangesBeside, ChangesFor}
 use Rattle.ip_held.specs.Tie.{IsCoreOf, IsTied, appending}
@@ -64,7 +65,7 @@ use Rattle.ip_held.proofs.OneCore.{has_core, run_on}
 use Rattle.ip_held.proofs.Phases.{DrawsNone}
 use Rattle.ip_held.proofs.Recovering.{held_has}
 use Rattle.ip_held.proofs.Renamed.{named_may, named_step, named_tables}
-use Rattle.ip_held.proofs.SlotLaws.{slots_on}
+use Rattle.ip_held.proofs.SlotLaws.{same_byte, slots_on}
 use Rattle.ip_held.proofs.StepFronts.{core_in}
 use Rattle.ip_held.proofs.Stepping.{of_store}
 use Rattle.ip_held.proofs.TableRecords.{all_heads, none_below, table_may, table_same, table_fits}
@@ -175,6 +176,11 @@ module _ (store : Held) (told : Told) (r : Repository) (now : Holds store told r
   pub begins_collecting : lending told job.attempt ≡ lent → Collects told store.slot A.records r (new_collection number job)
   begins_collecting is_lent = record { kept = offsets; collectable = collectable; border = inl ends; child = is_lent }
 
+-- the bytes of one record
+one_spelled : (at : ℕ) (x : Record) → bytes_of_records ((at, x) ∷ []) ≡ spelling x
+unfolding spelling_of
+one_spelled at x = append-nil (spelling x)
+
 module _ (r : Repository) (store : Held) (number : ℕ) (start : Start) (of : IsOf store r) (is : IsStart r store number start) (idle : store.collection ≡ None) where
   abbrev table : Record
   table = table_of r
@@ -233,6 +239,24 @@ module _ (r : Repository) (store : Held) (number : ℕ) (start : Start) (of : Is
     abbrev TookBy : Result (Unit {0}) StoreFault → Held → Told → Type 0
     TookBy res now b = Took (λ (done : Unit {0}). true) held r more res now b
 
+    -- the control file, and the chunks that hold the table
+    abbrev These : FileName → Type 0
+    These = IsWritten store.slot.chunk store.slot.end (end_behind r store.slot)
+
+    one : (s : Slot) → HasLive s a.held → store.slot ≡ s
+    one s has = one_slot store.slot s a.held (held_has store r a held) has
+
+    writes_by : (now : Held) (b : Told) (res : Result (Unit {0}) StoreFault) → TookBy res now b → WritesTo store.slot.chunk store.slot.end (end_behind r store.slot) a b
+    writes_by now b res took = subst (λ (bs : Bytes). WritesTo store.slot.chunk store.slot.end (store.slot.end + length bs) a b) (one_spelled store.slot.end table) took.writes
+
+    -- behind the step no chunk changes
+    written_for : (c : Told) → ChangesFor n These a c → (s : Slot) → HasLive s a.held → ChangesFor n (IsWritten s.chunk s.end (end_behind r s)) a c
+    written_for c only s has = subst (λ (u : Slot). ChangesFor n (IsWritten u.chunk u.end (end_behind r u)) a c) (one s has) only
+
+    behind_for : (c : Told) → ((at : ℕ) → end_behind r store.slot ≤ at → chunk_byte store.slot.chunk c.held at ≡ chunk_byte store.slot.chunk a.held at)
+        → (s : Slot) → HasLive s a.held → (at : ℕ) → end_behind r s ≤ at → chunk_byte s.chunk c.held at ≡ chunk_byte s.chunk a.held at
+    behind_for c same s has = subst (λ (u : Slot). (at : ℕ) → end_behind r u ≤ at → chunk_byte u.chunk c.held at ≡ chunk_byte u.chunk a.held at) (one s has) same
+
     fresh : NothingPending a → lending a n ≡ own
     fresh pending = subst (λ (k : ℕ). lending a k ≡ own) (sym is.job.attempt) (never_lent store r a held pending)
 
@@ -240,6 +264,8 @@ module _ (r : Repository) (store : Held) (number : ℕ) (start : Start) (of : Is
     pub starts_cut : (now : Held) (b : Told) (res : Result (Unit {0}) StoreFault) → res ≡ Err StoreFault.Ground → Took (λ (done : Unit {0}). true) held r ((store.slot.end, table_of r) ∷ []) res now b → StartsCollection {A = Unit {0}} r start.job.attempt (Err CollectFault.Ground) now a b
     starts_cut now b res cut step = (let took : TookBy (Err StoreFault.Ground) now b = subst (λ (x : Result (Unit {0}) StoreFault). TookBy x now b) cut step in record {
       only = for_only n (MayChange a.held) a b took.changes.only (keeps_store a b (MayChange a.held) (of_store a.held) took.changes.only);
+      written = written_for b (for_only n These a b (writes_by now b (Err StoreFault.Ground) took).only (keeps_store a b (MayChange a.held) (of_store a.held) took.changes.only));
+      behind = behind_for b (writes_by now b (Err StoreFault.Ground) took).behind;
       files = keeps_store a b (MayChange a.held) (of_store a.held) took.changes.only;
       holds = λ begins. absurd begins;
       lent = λ begins. absurd begins;
@@ -347,6 +373,8 @@ module _ (r : Repository) (store : Held) (number : ℕ) (start : Start) (of : Is
         pub starts_lent : IsPossibleNow c → (result : Result (Unit {0}) CollectFault) → (IsBegun result → lending c start.job.attempt ≡ lent) → StartsCollection r start.job.attempt result mid a c
         starts_lent now result is_lent = subst (λ (m : Held). StartsCollection r start.job.attempt result m a c) (sym same) (record {
           only = for_behind n (MayChange a.held) a b c took.changes.only (keeps_store a b (MayChange a.held) (of_store a.held) took.changes.only) (for_more n NoFile (MayChange a.held) b c (λ file none. absurd none) only);
+          written = written_for c (for_behind n These a b c (writes_by here b (Ok tt) took).only (keeps_store a b (MayChange a.held) (of_store a.held) took.changes.only) (for_more n NoFile These b c (λ file none. absurd none) only));
+          behind = behind_for c (λ at high. same_byte store.slot.chunk store.slot.end (end_behind r store.slot) b c at ((only.others (Chunk (chunk_of store.slot.chunk at)) (λ none. none) (λ of. of)).held (λ x. x)) ∙ (writes_by here b (Ok tt) took).behind at high);
           files = keeps_on a b c (keeps_store a b (MayChange a.held) (of_store a.held) took.changes.only) (keeps_lent b c n res lends);
           holds = λ begins. holds_apart here r b holds idle n other below NoFile apart c beside;
           lent = is_lent;

@@ -16,7 +16,7 @@ use Rattle.ip_collects.specs.declared.finishing.FinishFault.{FinishFault}
 use Rattle.ip_collects.specs.declared.finishing.Looked.{Looked}
 use Rattle.ip_collects.specs.Concluding.{ConcludesAs, asking, most_of}
 use Rattle.ip_collects.specs.Ending.{Goes}
-use Rattle.ip_collects.specs.Finishing.{FinishesBy, HasAnswer, IsAsked, IsCollected, IsQuiet, IsUndamaged, LooksWithin, WorksStay, met_by_finish}
+use Rattle.ip_collects.specs.Finishing.{FinishesBy, HasAnswer, IsAsked, IsAccepted, IsQuiet, IsUndamaged, LooksWithin, WorksStay, met_by_finish}
 use Rattle.ip_collects.specs.Judging.{IsBlamedIn, IsDamagedIn}
 use Rattle.ip_collects.proofs.ClearEnds.{finish_clear}
 use Rattle.ip_collects.proofs.EndFronts.{finish_fronts}
@@ -29,7 +29,7 @@ asked_by false child result met store now goes ended = tt
 module _ (tells wait : Bool) (child : Child) (result : Result Looked FinishFault) (left : ℕ) (store now : Held) (a b : Told)
     (goes : Goes child (most_of wait) result (met_by_finish child result left) store now) (ended : wait ≡ true → child ≢ Child.Running) (quiet : IsQuiet result → b ≡ a)
     (moments : IsTrue tells → (r : Repository) (held : Holds store a r) (c : Collection) (reaped : Reaped) → store.collection ≡ Some c → child ≡ Child.Ended reaped → (command : Command) → IsAsked command result → FinishesBy held.stands.standing.records r c command result store.unswept (met_by_finish child result left) now a b)
-    (bounded : IsTrue tells → (r : Repository) (held : Holds store a r) (c : Collection) → store.collection ≡ Some c → IsCollected result → LooksWithin (most_of wait) held.stands.standing.records c)
+    (bounded : IsTrue tells → (r : Repository) (held : Holds store a r) (c : Collection) → store.collection ≡ Some c → IsAccepted result → LooksWithin (most_of wait) held.stands.standing.records c)
     (undamaged : IsTrue tells → (r : Repository) → Holds store a r → IsUndamaged result)
     (untouched : IsTrue tells → ¬ IsUndamaged result → (c : Collection) → store.collection ≡ Some c → EndsFor c.job.attempt NoFile a b)
     (blames : (at : ℕ) → IsErrOf result (FinishFault.Damaged at) → IsBlamedIn now.collection at)

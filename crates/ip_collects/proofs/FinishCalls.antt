@@ -4,8 +4,8 @@
 --     goes_idle, goes_wait, goes_runs      nothing was heard of its end
 --     goes_cut, cut_finishes      it was heard, and its attempt could not be settled
 --     goes_on, on_finishes, on_bounded, on_works, on_owns, on_untouched, on_counts      it was, whether it was heard now or before
-use Rattle.std.proofs.Common.{◌≡◌, ◌≢◌, ◌≤◌, ◌⊎◌, inl, inr, ℕ, true, false, Some, None, Option, refl, sym, ◌∙◌, ap, subst, arith}
-use Rattle.std.specs.Prelude.{Result, Ok, Err, OnErr, IfSome, is_some}
+use Rattle.std.proofs.Common.{◌≡◌, ◌≢◌, ◌≤◌, ◌⊎◌, inl, inr, ℕ, List, true, false, Some, None, Option, refl, sym, ◌∙◌, ap, subst, arith}
+use Rattle.std.specs.Prelude.{Result, Ok, Err, OnErr, IfSome, IsSome, IsSomeAnd, is_some}
 use Rattle.ip_base.specs.declared.exit.Exit.{Exit}
 use Rattle.ip_ground.specs.declared.names.FileName.{FileName}
 use Rattle.ip_ground.specs.declared.names.FileName.TheVariants.{Control, Mapping, Prefix}
@@ -25,17 +25,20 @@ use Rattle.ip_spec.specs.Repository.{Repository}
 use Rattle.ip_spec.specs.Step.{Turned, collected_at, turned}
 use Rattle.ip_spec.specs.TreeAt.{Records, present}
 use Rattle.ip_image.specs.declared.slot.Slot.{Slot}
+use Rattle.ip_space.specs.SpaceView.{SpaceView, bare, grown}
 use Rattle.ip_image.proofs.OneRepository.{all_records, one_repository}
 use Rattle.ip_check.specs.CheckView.{CheckView}
+use Rattle.ip_check.specs.Checking.{IsCheck}
+use Rattle.ip_check.specs.declared.check.Stage.TheVariants as Stage
 use Rattle.ip_held.specs.declared.collection.Collection.{Collection}
 use Rattle.ip_held.specs.declared.collection.Unswept.{Unswept}
 use Rattle.ip_collects.specs.declared.finishing.FinishFault.{FinishFault}
 use Rattle.ip_collects.specs.declared.finishing.Looked.{Looked}
 use Rattle.ip_held.specs.declared.held.Held.{Held}
-use Rattle.ip_held.specs.Collecting.{Collects, IsOfChild, phase_of, child_of}
+use Rattle.ip_held.specs.Collecting.{Collects, IsGoing, IsOfChild, phase_of, child_of}
 use Rattle.ip_collects.specs.Ending.{Ends, EndsBy, FitsEnd, Goes, GoesOnAs, IsHeardIn, Listens, MayBeHeard, after_by, after_with}
-use Rattle.ip_collects.specs.Judging.{is_zero}
-use Rattle.ip_collects.specs.Finishing.{Concludes, CountsFinish, FinishesAs, FinishesBy, HasAnswer, IsAsked, IsCollected, IsKept, IsOver, IsQuiet, KeepsCollection, LookReplies, LooksWithin, MayTouch, Slices, SlotBy, TurnsBy, WorksStay, conditions_by, difference_in, looked_at, looked_of, met_by_finish, repository_after}
+use Rattle.ip_collects.specs.Judging.{IsThrough, is_zero}
+use Rattle.ip_collects.specs.Finishing.{Concludes, CountsFinish, FinishesAs, FinishesBy, HasAnswer, IsAsked, IsCollected, IsKept, IsOver, IsQuiet, IsUndamaged, KeepsCollection, LookReplies, LooksOn, LooksWithin, MayTouch, Slices, SlotBy, TurnsBy, WorksStay, conditions_by, difference_in, looked_at, looked_of, met_by_finish, repository_after}
 use Rattle.ip_held.specs.Held.{IsOf, Holds, OwnsPair, image_records}
 use Rattle.ip_held.specs.Sweeping.{EndsFor}
 use Rattle.ip_held.specs.Work.{IsLawful, state_at}
@@ -45,7 +48,7 @@ use Rattle.ip_collects.proofs.FinishEnds.{no_limit}
 use Rattle.ip_collects.proofs.FinishSpans.{Spared, atomic_front, atomic_still, spared_by}
 use Rattle.ip_collects.proofs.Ended.{ends_more, ends_on, ends_only}
 use Rattle.ip_collects.proofs.FinishTurns.{IsEnding, each_look, met_heard, met_of, repository_is, told_difference, turn_of, turned_heard, turns_end, turns_none, turns_runs, turns_wait}
-use Rattle.ip_held.proofs.Going.{phase_here}
+use Rattle.ip_held.proofs.Going.{going_here, phase_here}
 use Rattle.ip_held.proofs.KeptFiles.{keeps_on, keeps_store, nothing_else}
 use Rattle.ip_held.proofs.LeftImages.{swapped_front, swapped_still}
 use Rattle.ip_held.proofs.SlotLaws.{slots_still, slots_then}
@@ -70,6 +73,37 @@ known_same store c reaped runs kept = λ i. record store { collection = (runs �
 pub same_running : (o : Option Collection) (c d : Collection) → o ≡ Some c → o ≡ Some d → c ≡ d
 same_running o c d one other = cc (one, other)
 
+same_kept : (c d : Collection) (a b : Reaped) → c.exit ≡ Some a → c ≡ d → d.exit ≡ Some b → a ≡ b
+same_kept c d a b one same other = (let both : Some a ≡ Some b = sym one ∙ ap (λ (x : Collection). x.exit) same ∙ other in cc (both))
+
+-- the exit that was kept is what is heard
+kept_heard : (exit : Option Reaped) (n : ℕ) (reaped other : Reaped) → MayBeHeard exit n (Child.Ended reaped) → exit ≡ Some other → reaped ≡ other
+kept_heard None n reaped other may is = absurd (cc (is))
+kept_heard (Some kept) n reaped other may is = (let same : kept ≡ other = cc (is) in same_reaped reaped kept may ∙ same)
+
+no_exit : (exit : Option Reaped) → exit ≡ None → IsSome exit → ⊥
+no_exit None none some = cc (some)
+no_exit (Some kept) none some = cc (none)
+
+-- no check is kept of a child whose end was not heard
+unchecked : (floor : ℕ) (places : List ℕ) (u : Unswept) (space : SpaceView) (c : Collection) → IsGoing floor places u space c → c.exit ≡ None → ¬ IsThrough (Some c)
+unchecked floor places u space c going none through = by c.check going.check through
+  where
+    by : (check : Option CheckView) → IfSome check (λ k. IsCheck k × (k.job ≡ c.job) × (k.keep.space ≡ bare (grown space c.job.end)) × IsSome c.exit) → IsSomeAnd check (λ k. k.stage ≡ Stage.Through None) → ⊥
+    by None is through = absurd through
+    by (Some k) is through = no_exit c.exit none is.3
+
+-- damage is found only in a check, which is made only of what was written by a child that ended with code 0
+damage_zero : (exit : Exit) (c : Collection) (left : ℕ) (result : Result Looked FinishFault) → FitsEnd exit c left result → ¬ IsUndamaged result → is_zero exit
+damage_zero exit c left (Err (FinishFault.Damaged at)) fits not = fits
+damage_zero exit c left (Ok looked) fits not = absurd (not tt)
+damage_zero exit c left (Err FinishFault.Idle) fits not = absurd (not tt)
+damage_zero exit c left (Err FinishFault.Wait) fits not = absurd (not tt)
+damage_zero exit c left (Err (FinishFault.Rejected rejection)) fits not = absurd (not tt)
+damage_zero exit c left (Err (FinishFault.Limit limit)) fits not = absurd (not tt)
+damage_zero exit c left (Err FinishFault.Ground) fits not = absurd (not tt)
+damage_zero exit c left (Err FinishFault.Memory) fits not = absurd (not tt)
+
 -- ---- what an answer is not
 
 no_quiet : {X : Type 0} (exit : Exit) (c : Collection) (left : ℕ) (result : Result Looked FinishFault) → FitsEnd exit c left result → IsQuiet result → X
@@ -88,44 +122,44 @@ no_quiet exit c left (Err FinishFault.Memory) fits is = absurd is
 held_none : (reaped : Reaped) (c : Collection) (now : Option Collection) → c.exit ≡ Some reaped → (check : Option CheckView) → now ≡ Some (record c { check = check }) → child_of now ≡ None
 held_none reaped c now kept check is = ap child_of is ∙ ap (λ (e : Option Reaped). child_of (Some (record c { exit = e; check = check }))) kept
 
-child_behind : (exit : Exit) (reaped : Reaped) (c : Collection) (left : ℕ) (result : Result Looked FinishFault) (now : Option Collection) → c.exit ≡ Some reaped → FitsEnd exit c left result → GoesOnAs result c now → child_of now ≡ None
-child_behind exit reaped c left (Ok Looked.Running) now kept fits goes = absurd fits
-child_behind exit reaped c left (Ok (Looked.Checking bytes)) now kept fits goes = held_none reaped c now kept goes.0 goes.1
-child_behind exit reaped c left (Ok (Looked.Collected collected)) now kept fits goes = ap child_of goes
-child_behind exit reaped c left (Err FinishFault.Idle) now kept fits goes = absurd fits
-child_behind exit reaped c left (Err FinishFault.Wait) now kept fits goes = absurd fits
-child_behind exit reaped c left (Err (FinishFault.Rejected rejection)) now kept fits goes = ap child_of goes
-child_behind exit reaped c left (Err (FinishFault.Limit limit)) now kept fits goes = ap child_of goes
-child_behind exit reaped c left (Err FinishFault.Ground) now kept fits goes = held_none reaped c now kept goes.0 goes.1
-child_behind exit reaped c left (Err (FinishFault.Damaged at)) now kept fits goes = held_none reaped c now kept goes.0 goes.1
-child_behind exit reaped c left (Err FinishFault.Memory) now kept fits goes = held_none reaped c now kept goes.0 goes.1
+child_behind : (most : ℕ) (exit : Exit) (reaped : Reaped) (c : Collection) (left : ℕ) (result : Result Looked FinishFault) (now : Option Collection) → c.exit ≡ Some reaped → FitsEnd exit c left result → GoesOnAs most result c now → child_of now ≡ None
+child_behind most exit reaped c left (Ok Looked.Running) now kept fits goes = absurd fits
+child_behind most exit reaped c left (Ok (Looked.Checking bytes)) now kept fits goes = held_none reaped c now kept goes.0 goes.1
+child_behind most exit reaped c left (Ok (Looked.Collected collected)) now kept fits goes = ap child_of goes
+child_behind most exit reaped c left (Err FinishFault.Idle) now kept fits goes = absurd fits
+child_behind most exit reaped c left (Err FinishFault.Wait) now kept fits goes = absurd fits
+child_behind most exit reaped c left (Err (FinishFault.Rejected rejection)) now kept fits goes = ap child_of goes
+child_behind most exit reaped c left (Err (FinishFault.Limit limit)) now kept fits goes = ap child_of goes
+child_behind most exit reaped c left (Err FinishFault.Ground) now kept fits goes = held_none reaped c now kept goes.0 goes.1
+child_behind most exit reaped c left (Err (FinishFault.Damaged at)) now kept fits goes = held_none reaped c now kept goes.0 goes.1
+child_behind most exit reaped c left (Err FinishFault.Memory) now kept fits goes = held_none reaped c now kept goes.0 goes.1
 
-kept_so : (reaped : Reaped) (c : Collection) (now : Option Collection) → c.exit ≡ Some reaped → (check : Option CheckView) → now ≡ Some (record c { check = check }) → looked_at c ≤ looked_of check → KeepsCollection c reaped now
-kept_so reaped c now kept check is looked = record { same = record c { check = check }; is = is; commit = refl; job = refl; exit = kept; looked = looked }
+kept_so : (most : ℕ) (reaped : Reaped) (c : Collection) (now : Option Collection) → c.exit ≡ Some reaped → (check : Option CheckView) → now ≡ Some (record c { check = check }) → LooksOn most c check → KeepsCollection most c reaped now
+kept_so most reaped c now kept check is looked = record { same = record c { check = check }; is = is; commit = refl; job = refl; exit = kept; looked = looked }
 
-kept_behind : (reaped : Reaped) (c : Collection) (result : Result Looked FinishFault) (now : Option Collection) → c.exit ≡ Some reaped → GoesOnAs result c now → IsKept result → KeepsCollection c reaped now
-kept_behind reaped c (Ok Looked.Running) now kept goes is = absurd is
-kept_behind reaped c (Ok (Looked.Checking bytes)) now kept goes is = kept_so reaped c now kept goes.0 goes.1 goes.2
-kept_behind reaped c (Ok (Looked.Collected collected)) now kept goes is = absurd is
-kept_behind reaped c (Err FinishFault.Memory) now kept goes is = kept_so reaped c now kept goes.0 goes.1 goes.2
-kept_behind reaped c (Err FinishFault.Idle) now kept goes is = absurd is
-kept_behind reaped c (Err FinishFault.Wait) now kept goes is = absurd is
-kept_behind reaped c (Err (FinishFault.Rejected rejection)) now kept goes is = absurd is
-kept_behind reaped c (Err (FinishFault.Limit limit)) now kept goes is = absurd is
-kept_behind reaped c (Err FinishFault.Ground) now kept goes is = absurd is
-kept_behind reaped c (Err (FinishFault.Damaged at)) now kept goes is = absurd is
+kept_behind : (most : ℕ) (reaped : Reaped) (c : Collection) (result : Result Looked FinishFault) (now : Option Collection) → c.exit ≡ Some reaped → GoesOnAs most result c now → IsKept result → KeepsCollection most c reaped now
+kept_behind most reaped c (Ok Looked.Running) now kept goes is = absurd is
+kept_behind most reaped c (Ok (Looked.Checking bytes)) now kept goes is = kept_so most reaped c now kept goes.0 goes.1 goes.2
+kept_behind most reaped c (Ok (Looked.Collected collected)) now kept goes is = absurd is
+kept_behind most reaped c (Err FinishFault.Memory) now kept goes is = kept_so most reaped c now kept goes.0 goes.1 goes.2
+kept_behind most reaped c (Err FinishFault.Idle) now kept goes is = absurd is
+kept_behind most reaped c (Err FinishFault.Wait) now kept goes is = absurd is
+kept_behind most reaped c (Err (FinishFault.Rejected rejection)) now kept goes is = absurd is
+kept_behind most reaped c (Err (FinishFault.Limit limit)) now kept goes is = absurd is
+kept_behind most reaped c (Err FinishFault.Ground) now kept goes is = absurd is
+kept_behind most reaped c (Err (FinishFault.Damaged at)) now kept goes is = absurd is
 
-over_behind : (c : Collection) (result : Result Looked FinishFault) (now : Option Collection) → GoesOnAs result c now → IsOver result → now ≡ None
-over_behind c (Ok Looked.Running) now goes is = absurd is
-over_behind c (Ok (Looked.Checking bytes)) now goes is = absurd is
-over_behind c (Ok (Looked.Collected collected)) now goes is = goes
-over_behind c (Err FinishFault.Memory) now goes is = absurd is
-over_behind c (Err FinishFault.Idle) now goes is = absurd is
-over_behind c (Err FinishFault.Wait) now goes is = absurd is
-over_behind c (Err (FinishFault.Rejected rejection)) now goes is = goes
-over_behind c (Err (FinishFault.Limit limit)) now goes is = goes
-over_behind c (Err FinishFault.Ground) now goes is = absurd is
-over_behind c (Err (FinishFault.Damaged at)) now goes is = absurd is
+over_behind : (most : ℕ) (c : Collection) (result : Result Looked FinishFault) (now : Option Collection) → GoesOnAs most result c now → IsOver result → now ≡ None
+over_behind most c (Ok Looked.Running) now goes is = absurd is
+over_behind most c (Ok (Looked.Checking bytes)) now goes is = absurd is
+over_behind most c (Ok (Looked.Collected collected)) now goes is = goes
+over_behind most c (Err FinishFault.Memory) now goes is = absurd is
+over_behind most c (Err FinishFault.Idle) now goes is = absurd is
+over_behind most c (Err FinishFault.Wait) now goes is = absurd is
+over_behind most c (Err (FinishFault.Rejected rejection)) now goes is = goes
+over_behind most c (Err (FinishFault.Limit limit)) now goes is = goes
+over_behind most c (Err FinishFault.Ground) now goes is = absurd is
+over_behind most c (Err (FinishFault.Damaged at)) now goes is = absurd is
 
 answered_after : (result : Result Looked FinishFault) (difference : Option Difference) (r : Repository) (c : Collection) → HasAnswer result → after_with result difference r c ≡ after_by result r c
 answered_after (Ok x) difference r c has = refl
@@ -147,7 +181,7 @@ module _ (store : Held) (c : Collection) (runs : store.collection ≡ Some c) (r
   concludes r of command asked =
       each_look (λ reply. (work : MachineWork) → TurnsBy (state_at r (phase_of (Some c)) work) command (met_of (Child.Ended reaped) result left (difference_in result)) reply (state_at (after_by result r c) (phase_of now.collection) work))
       (Concludes r (Some c) command (conditions_by said result) now) result (λ has reply turns. record { after = after_by result r c; turns = turns; tables = ends.tables r of has })
-      (turns_end r c reaped kept result left (difference_in result) ends.fits ends.none (told_difference result) command asked now.collection ends.goes_on)
+      (turns_end r c reaped kept result left (difference_in result) ends.fits ends.none (told_difference result) command asked most now.collection ends.goes_on)
 
   pub end_goes : Goes (Child.Ended reaped) most result (met_by_finish (Child.Ended reaped) result left) store now
   end_goes = record {
@@ -161,14 +195,17 @@ module _ (store : Held) (c : Collection) (runs : store.collection ≡ Some c) (r
     wanted = λ is other heard. subst (λ (x : Reaped). is_zero x.exit) (same_reaped reaped other heard) (subst (FitsEnd reaped.exit c left) is ends.fits);
     through = ends.through;
     sequence = ends.sequence;
-    held = child_behind reaped.exit reaped c left result now.collection kept ends.fits ends.goes_on;
+    damage = λ not other heard. subst (λ (x : Reaped). is_zero x.exit) (same_reaped reaped other heard) (damage_zero reaped.exit c left result ends.fits not);
+    fault = λ is d other here exit. subst (λ (x : Reaped). is_zero x.exit) (same_kept c d reaped other kept (same_running store.collection c d runs here) exit) (subst (FitsEnd reaped.exit c left) is ends.fits);
+    room = ends.room;
+    held = child_behind most reaped.exit reaped c left result now.collection kept ends.fits ends.goes_on;
     goes_on = λ is d other here heard.
-        subst (λ (x : Collection). KeepsCollection x other now.collection) (same_running store.collection c d runs here)
-        (subst (λ (x : Reaped). KeepsCollection c x now.collection) (same_reaped reaped other heard) (kept_behind reaped c result now.collection kept ends.goes_on is));
+        subst (λ (x : Collection). KeepsCollection most x other now.collection) (same_running store.collection c d runs here)
+        (subst (λ (x : Reaped). KeepsCollection most c x now.collection) (same_reaped reaped other heard) (kept_behind most reaped c result now.collection kept ends.goes_on is));
     sliced = λ d here. subst (λ (x : Collection). Slices most x result now.collection) (same_running store.collection c d runs here) ends.sliced;
     whole = ends.whole;
     running = λ differ is. no_quiet {X = ⊥} reaped.exit c left (Ok Looked.Running) (subst (FitsEnd reaped.exit c left) is ends.fits) tt;
-    over = over_behind c result now.collection ends.goes_on;
+    over = over_behind most c result now.collection ends.goes_on;
     limits = ends.limits;
     slot = λ d here. subst (λ (x : Collection). SlotBy result x store now.slot) (same_running store.collection c d runs here) ends.slot;
     unswept = ends.unswept;
@@ -191,7 +228,7 @@ module _ (store : Held) (c : Collection) (runs : store.collection ≡ Some c) (r
           turns = each_look (λ reply. (work : MachineWork) → TurnsBy (state_at r (phase_of (Some c)) work) command conditions reply (state_at (after_by result r c) (phase_of now.collection) work))
               (λ reply. (work : MachineWork) → TurnsBy (state_at r (phase_of (Some c)) work) command conditions reply (state_at (repository_after r c command conditions) (phase_of now.collection) work)) result
               (λ has reply turns work. subst (λ (q : Repository). TurnsBy (state_at r (phase_of (Some c)) work) command conditions reply (state_at q (phase_of now.collection) work)) (sym (lands ∙ answered_after result does.difference r c has)) (turns work))
-              (turns_end r c reaped kept result left does.difference ends.fits ends.none does.tells command asked now.collection ends.goes_on);
+              (turns_end r c reaped kept result left does.difference ends.fits ends.none does.tells command asked most now.collection ends.goes_on);
           does = subst (λ (q : Repository). FinishesAs r q c result store.unswept left now a b) (sym lands) does.does;
           remains = does.remains;
           same = does.same;
@@ -261,6 +298,9 @@ module _ (store : Held) (most : ℕ) where
     wanted = λ is. absurd (cc (is));
     through = λ is. absurd (cc (is));
     sequence = λ is. absurd (cc (is));
+    damage = λ not. absurd (not tt);
+    fault = λ is. absurd (cc (is));
+    room = λ is. absurd (cc (is));
     held = refl;
     goes_on = λ is. absurd is;
     sliced = λ d here. tt;
@@ -298,6 +338,9 @@ module _ (store : Held) (most : ℕ) where
       wanted = λ is. absurd (cc (is));
       through = λ is. absurd (cc (is));
       sequence = λ is. absurd (cc (is));
+      damage = λ not. absurd (not tt);
+      fault = λ is. absurd (cc (is));
+      room = λ is. absurd (cc (is));
       held = refl;
       goes_on = λ is. absurd is;
       sliced = λ d here. tt;
@@ -325,6 +368,9 @@ module _ (store : Held) (most : ℕ) where
       wanted = λ is. absurd (cc (is));
       through = λ is. absurd (cc (is));
       sequence = λ is. absurd (cc (is));
+      damage = λ not. absurd (not tt);
+      fault = λ is. absurd (cc (is));
+      room = λ is. absurd (cc (is));
       held = refl;
       goes_on = λ is. absurd is;
       sliced = λ d here. tt;
@@ -365,8 +411,8 @@ module _ (store : Held) (c : Collection) (runs : store.collection ≡ Some c) (r
   abbrev mid : Held
   mid = record store { collection = Some known }
 
-  cut_store : Goes (Child.Ended reaped) most (Err FinishFault.Ground) (met_by_finish (Child.Ended reaped) (Err FinishFault.Ground) 0) store mid
-  cut_store = record {
+  cut_store : c.exit ≡ None → (r : Repository) → IsOf store r → Goes (Child.Ended reaped) most (Err FinishFault.Ground) (met_by_finish (Child.Ended reaped) (Err FinishFault.Ground) 0) store mid
+  cut_store unheard q of_store = record {
     left = 0;
     told = refl;
     answered = λ r of command asked. tt;
@@ -377,6 +423,9 @@ module _ (store : Held) (c : Collection) (runs : store.collection ≡ Some c) (r
     wanted = λ is. absurd (cc (is));
     through = λ is. absurd (cc (is));
     sequence = λ is. absurd (cc (is));
+    damage = λ not. absurd (not tt);
+    fault = λ is d other here exit. (let both : None ≡ Some other = sym unheard ∙ ap (λ (x : Collection). x.exit) (same_running store.collection c d runs here) ∙ exit in absurd (cc (both)));
+    room = λ is through. absurd (unchecked store.slot.floor store.places store.unswept store.space c (going_here store q c runs of_store) unheard through);
     held = refl;
     goes_on = λ is. absurd is;
     sliced = λ d here. tt;
@@ -388,8 +437,8 @@ module _ (store : Held) (c : Collection) (runs : store.collection ≡ Some c) (r
     unswept = refl;
   }
 
-  pub goes_cut : (heard : Held) → heard ≡ record store { collection = Some (record c { exit = Some reaped }) } → Goes (Child.Ended reaped) most (Err FinishFault.Ground) (met_by_finish (Child.Ended reaped) (Err FinishFault.Ground) 0) store heard
-  goes_cut heard known_is = subst (λ (s : Held). Goes (Child.Ended reaped) most (Err FinishFault.Ground) (met_by_finish (Child.Ended reaped) (Err FinishFault.Ground) 0) store s) (sym known_is) cut_store
+  pub goes_cut : c.exit ≡ None → (r : Repository) → IsOf store r → (heard : Held) → heard ≡ record store { collection = Some (record c { exit = Some reaped }) } → Goes (Child.Ended reaped) most (Err FinishFault.Ground) (met_by_finish (Child.Ended reaped) (Err FinishFault.Ground) 0) store heard
+  goes_cut unheard r of heard known_is = subst (λ (s : Held). Goes (Child.Ended reaped) most (Err FinishFault.Ground) (met_by_finish (Child.Ended reaped) (Err FinishFault.Ground) 0) store s) (sym known_is) (cut_store unheard r of)
 
   -- ---- and what comes of it
 
@@ -435,9 +484,12 @@ module _ (store : Held) (c : Collection) (runs : store.collection ≡ Some c) (r
           wanted = goes.wanted;
           through = goes.through;
           sequence = goes.sequence;
+          damage = goes.damage;
+          fault = λ is d other here exit. subst (λ (x : Reaped). is_zero x.exit) (kept_heard c.exit c.job.attempt reaped other may (ap (λ (x : Collection). x.exit) (same_running store.collection c d runs here) ∙ exit)) (goes.fault is known reaped refl refl);
+          room = goes.room;
           held = goes.held;
           goes_on = λ is d other here heard.
-              subst (λ (x : Collection). KeepsCollection x other now.collection) (same_running store.collection c d runs here)
+              subst (λ (x : Collection). KeepsCollection most x other now.collection) (same_running store.collection c d runs here)
               (let kept = goes.goes_on is known other refl heard in record { same = kept.same; is = kept.is; commit = kept.commit; job = kept.job; exit = kept.exit; looked = kept.looked });
           sliced = λ d here. subst (λ (x : Collection). Slices most x result now.collection) (same_running store.collection c d runs here) (same_slices result now.collection (goes.sliced known refl));
           whole = goes.whole;

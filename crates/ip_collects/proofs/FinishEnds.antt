@@ -28,7 +28,7 @@ use Rattle.ip_collects.specs.declared.finishing.Rejection.{Rejection}
 use Rattle.ip_held.specs.declared.held.Held.{Held}
 use Rattle.ip_collects.specs.Ending.{Ends}
 use Rattle.ip_collects.specs.CollectFaults.{counted_finish}
-use Rattle.ip_collects.specs.Finishing.{CountsFinish, IsCollected, IsUndamaged, LimitsFinish, looked_at, looked_of, swapped_slot}
+use Rattle.ip_collects.specs.Finishing.{CountsFinish, IsCollected, IsUndamaged, LimitsFinish, LooksOn, swapped_slot}
 use Rattle.ip_collects.specs.Judging.{FindsNone, FitsExit, IsBlamedIn, IsCut, IsDamagedIn, IsOpen, IsRootless, IsRootlessIn, IsThrough, SlicesBy, is_zero, with_check}
 use Rattle.ip_held.specs.Held.{IsOf}
 use Rattle.ip_collects.specs.Swapping.{Accepts, IsSwapFault}
@@ -115,7 +115,7 @@ rootless_damaged told (Some c) at is = by c.check is
 pub no_limit : (result : Result Looked FinishFault) (store : Held) → ((limit : Limit) → result ≡ Err (FinishFault.Limit limit) → ⊥) → ¬ IsCollected result → LimitsFinish result store
 no_limit result store none not = record { sequence = λ limit is. absurd (none limit is); enough = λ collected. absurd (not collected) }
 
-module _ (store : Held) (c : Collection) (reaped : Reaped) (most : ℕ) (check : Option CheckView) (mid : Held) (is : mid ≡ with_check store c check) (looked : looked_at c ≤ looked_of check)
+module _ (store : Held) (c : Collection) (reaped : Reaped) (most : ℕ) (check : Option CheckView) (mid : Held) (is : mid ≡ with_check store c check) (looked : LooksOn most c check)
     (tables : (r : Repository) → IsOf store r → IsOf mid r) where
   pub ends_open : (bytes : ℕ) → FitsExit reaped.exit (Ok (Verdict.Open bytes)) → SlicesBy most c (Ok (Verdict.Open bytes)) mid.collection → (most ≡ 2 ^ 64 - 1 → ¬ IsOpen (Ok (Verdict.Open bytes)))
       → Ends reaped.exit most c (Ok (Looked.Checking bytes)) 0 store mid
@@ -123,6 +123,7 @@ module _ (store : Held) (c : Collection) (reaped : Reaped) (most : ℕ) (check :
     fits = fits;
     through = λ e. absurd (cc e);
     sequence = λ e. absurd (cc e);
+    room = λ e. absurd (cc e);
     none = λ no. refl;
     goes_on = (check, ap (λ (s : Held). s.collection) is, looked);
     tables = λ r of has. tables r of;
@@ -133,11 +134,12 @@ module _ (store : Held) (c : Collection) (reaped : Reaped) (most : ℕ) (check :
     unswept = ap (λ (s : Held). s.unswept) is;
   }
 
-  pub ends_cut : (fault : FinishFault) → FitsExit reaped.exit (Err fault) → (fault ≡ FinishFault.Memory → FindsNone mid.collection) → (fault ≡ FinishFault.Memory → ¬ IsThrough mid.collection) → Ends reaped.exit most c (Err fault) 0 store mid
+  pub ends_cut : (fault : FinishFault) → FitsExit reaped.exit (Err fault) → (fault ≡ FinishFault.Memory → FindsNone mid.collection) → ¬ IsThrough mid.collection → Ends reaped.exit most c (Err fault) 0 store mid
   ends_cut FinishFault.Ground fits found unsaid = record {
     fits = fits.0;
     through = λ e. absurd (cc e);
     sequence = λ e. absurd (cc e);
+    room = λ e through. absurd (unsaid through);
     none = λ no. refl;
     goes_on = (check, ap (λ (s : Held). s.collection) is, looked);
     tables = λ r of has. absurd has;
@@ -151,6 +153,7 @@ module _ (store : Held) (c : Collection) (reaped : Reaped) (most : ℕ) (check :
     fits = fits.0;
     through = λ e. absurd (cc e);
     sequence = λ e. absurd (cc e);
+    room = λ e. absurd (cc e);
     none = λ no. refl;
     goes_on = (check, ap (λ (s : Held). s.collection) is, looked);
     tables = λ r of has. absurd has;
@@ -163,7 +166,8 @@ module _ (store : Held) (c : Collection) (reaped : Reaped) (most : ℕ) (check :
   ends_cut FinishFault.Memory fits found unsaid = record {
     fits = fits.0;
     through = λ e. found refl;
-    sequence = λ e through. absurd (unsaid refl through);
+    sequence = λ e through. absurd (unsaid through);
+    room = λ e. absurd (cc e);
     none = λ no. refl;
     goes_on = (check, ap (λ (s : Held). s.collection) is, looked);
     tables = λ r of has. tables r of;
@@ -185,6 +189,7 @@ module _ (store : Held) (c : Collection) (reaped : Reaped) (most : ℕ) (check :
     fits = fits;
     through = λ e. absurd (cc e);
     sequence = λ e. absurd (cc e);
+    room = λ e. absurd (cc e);
     none = λ no. absurd (no tt);
     goes_on = refl;
     tables = λ r of has. over_tables store r (unswept_now store left) (unswept_is store r left of) of;
@@ -197,11 +202,12 @@ module _ (store : Held) (c : Collection) (reaped : Reaped) (most : ℕ) (check :
 
   module _ (zero : is_zero reaped.exit) (now : Held) where
     -- it was asked for with some tables
-    pub ends_refused : (q : Repository) → IsOf store q → (fault : FinishFault) → IsSwapFault fault → IsThrough mid.collection → (fault ≡ FinishFault.Memory → mid.slot.sequence < OFFSET_MAX) → ((r : Repository) → IsOf mid r → Accepts (Err fault) r c mid now) → Ends reaped.exit most c (Err fault) 0 store now
-    ends_refused q of FinishFault.Ground may through less accepts = (let same = accepts q (tables q of) ∙ is in record {
+    pub ends_refused : (q : Repository) → IsOf store q → (fault : FinishFault) → IsSwapFault fault → IsThrough mid.collection → (fault ≡ FinishFault.Memory → mid.slot.sequence < OFFSET_MAX) → (fault ≡ FinishFault.Ground → mid.slot.sequence < OFFSET_MAX) → ((r : Repository) → IsOf mid r → Accepts (Err fault) r c mid now) → Ends reaped.exit most c (Err fault) 0 store now
+    ends_refused q of FinishFault.Ground may through less room accepts = (let same = accepts q (tables q of) ∙ is in record {
       fits = zero;
       through = λ e. absurd (cc e);
       sequence = λ e. absurd (cc e);
+      room = λ e stays. subst (λ (s : Held). s.slot.sequence < OFFSET_MAX) is (room refl);
       none = λ no. refl;
       goes_on = (check, ap (λ (s : Held). s.collection) same, looked);
       tables = λ r of has. absurd has;
@@ -211,10 +217,11 @@ module _ (store : Held) (c : Collection) (reaped : Reaped) (most : ℕ) (check :
       slot = ap (λ (s : Held). s.slot) same;
       unswept = ap (λ (s : Held). s.unswept) same;
     })
-    ends_refused q of (FinishFault.Damaged at) may through less accepts = (let same = accepts q (tables q of) ∙ is in record {
+    ends_refused q of (FinishFault.Damaged at) may through less room accepts = (let same = accepts q (tables q of) ∙ is in record {
       fits = zero;
       through = λ e. absurd (cc e);
       sequence = λ e. absurd (cc e);
+      room = λ e. absurd (cc e);
       none = λ no. refl;
       goes_on = (check, ap (λ (s : Held). s.collection) same, looked);
       tables = λ r of has. absurd has;
@@ -224,10 +231,11 @@ module _ (store : Held) (c : Collection) (reaped : Reaped) (most : ℕ) (check :
       slot = ap (λ (s : Held). s.slot) same;
       unswept = ap (λ (s : Held). s.unswept) same;
     })
-    ends_refused q of FinishFault.Memory may through less accepts = (let same = accepts q (tables q of) ∙ is in record {
+    ends_refused q of FinishFault.Memory may through less room accepts = (let same = accepts q (tables q of) ∙ is in record {
       fits = zero;
       through = λ e. subst (λ (s : Held). FindsNone s.collection) (sym (accepts q (tables q of))) (none_through mid.collection through);
       sequence = λ e stays. subst (λ (s : Held). s.slot.sequence < OFFSET_MAX) is (less refl);
+      room = λ e. absurd (cc e);
       none = λ no. refl;
       goes_on = (check, ap (λ (s : Held). s.collection) same, looked);
       tables = λ p there has. subst (λ (s : Held). IsOf s p) (sym (accepts q (tables q of))) (tables p there);
@@ -237,13 +245,14 @@ module _ (store : Held) (c : Collection) (reaped : Reaped) (most : ℕ) (check :
       slot = ap (λ (s : Held). s.slot) same;
       unswept = ap (λ (s : Held). s.unswept) same;
     })
-    ends_refused q of (FinishFault.Limit Limit.Sequence) may through less accepts =
+    ends_refused q of (FinishFault.Limit Limit.Sequence) may through less room accepts =
         let got = accepts q (tables q of) in
         let same : now ≡ over store store.unswept = got.0 ∙ ap (λ (s : Held). record s { collection = None }) is in
         record {
           fits = (zero, refl);
           through = λ e. absurd (cc e);
           sequence = λ e. absurd (cc e);
+          room = λ e. absurd (cc e);
           none = λ no. refl;
           goes_on = ap (λ (s : Held). s.collection) same;
           tables = λ p there has. subst (λ (s : Held). IsOf s p) (sym same) (over_tables store p store.unswept there.unswept there);
@@ -253,10 +262,10 @@ module _ (store : Held) (c : Collection) (reaped : Reaped) (most : ℕ) (check :
           slot = ap (λ (s : Held). s.slot) same;
           unswept = ap (λ (s : Held). s.unswept) same;
         }
-    ends_refused q of (FinishFault.Limit _) may through less accepts = absurd may
-    ends_refused q of FinishFault.Idle may through less accepts = absurd may
-    ends_refused q of FinishFault.Wait may through less accepts = absurd may
-    ends_refused q of (FinishFault.Rejected rejection) may through less accepts = absurd may
+    ends_refused q of (FinishFault.Limit _) may through less room accepts = absurd may
+    ends_refused q of FinishFault.Idle may through less room accepts = absurd may
+    ends_refused q of FinishFault.Wait may through less room accepts = absurd may
+    ends_refused q of (FinishFault.Rejected rejection) may through less room accepts = absurd may
 
     pub ends_collected : (q : Repository) → IsOf store q → ((r : Repository) → IsOf mid r → Accepts (Ok tt) r c mid now) → (left : ℕ) (swept : Held) → swept ≡ record now { unswept = if left == 0 then swept_to now.slot else now.unswept }
         → Ends reaped.exit most c (Ok (Looked.Collected (record { floor = now.slot.floor; left = left }))) left store swept
@@ -264,6 +273,7 @@ module _ (store : Held) (c : Collection) (reaped : Reaped) (most : ℕ) (check :
       fits = (zero, ap (λ (n : ℕ). record { floor = n; left = left }) (ap (λ (s : Slot). s.floor) slot_is));
       through = λ e. absurd (cc e);
       sequence = λ e. absurd (cc e);
+      room = λ e. absurd (cc e);
       none = λ no. absurd (no tt);
       goes_on = got.1;
       tables = λ p there has. (let one = accepts p (tables p there) in

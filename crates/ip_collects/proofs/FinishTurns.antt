@@ -295,17 +295,17 @@ module _ (r : Repository) (c : Collection) (reaped : Reaped) where
       )
 
   -- as the store says it
-  phase_is : (result : Result Looked FinishFault) (left : ℕ) (now : Option Collection) → c.exit ≡ Some reaped → FitsEnd reaped.exit c left result → GoesOnAs result c now → phase_of now ≡ phase_by result c.commit reaped
-  phase_is (Ok Looked.Running) left now kept fits goes = absurd fits
-  phase_is (Ok (Looked.Checking bytes)) left now kept fits goes = ap phase_of goes.1 ∙ ap (Phase.Collecting c.commit) kept
-  phase_is (Ok (Looked.Collected collected)) left now kept fits goes = ap phase_of goes
-  phase_is (Err FinishFault.Idle) left now kept fits goes = absurd fits
-  phase_is (Err FinishFault.Wait) left now kept fits goes = absurd fits
-  phase_is (Err (FinishFault.Rejected rejection)) left now kept fits goes = ap phase_of goes
-  phase_is (Err (FinishFault.Limit limit)) left now kept fits goes = ap phase_of goes
-  phase_is (Err FinishFault.Ground) left now kept fits goes = ap phase_of goes.1 ∙ ap (Phase.Collecting c.commit) kept
-  phase_is (Err (FinishFault.Damaged at)) left now kept fits goes = ap phase_of goes.1 ∙ ap (Phase.Collecting c.commit) kept
-  phase_is (Err FinishFault.Memory) left now kept fits goes = ap phase_of goes.1 ∙ ap (Phase.Collecting c.commit) kept
+  phase_is : (most : ℕ) (result : Result Looked FinishFault) (left : ℕ) (now : Option Collection) → c.exit ≡ Some reaped → FitsEnd reaped.exit c left result → GoesOnAs most result c now → phase_of now ≡ phase_by result c.commit reaped
+  phase_is most (Ok Looked.Running) left now kept fits goes = absurd fits
+  phase_is most (Ok (Looked.Checking bytes)) left now kept fits goes = ap phase_of goes.1 ∙ ap (Phase.Collecting c.commit) kept
+  phase_is most (Ok (Looked.Collected collected)) left now kept fits goes = ap phase_of goes
+  phase_is most (Err FinishFault.Idle) left now kept fits goes = absurd fits
+  phase_is most (Err FinishFault.Wait) left now kept fits goes = absurd fits
+  phase_is most (Err (FinishFault.Rejected rejection)) left now kept fits goes = ap phase_of goes
+  phase_is most (Err (FinishFault.Limit limit)) left now kept fits goes = ap phase_of goes
+  phase_is most (Err FinishFault.Ground) left now kept fits goes = ap phase_of goes.1 ∙ ap (Phase.Collecting c.commit) kept
+  phase_is most (Err (FinishFault.Damaged at)) left now kept fits goes = ap phase_of goes.1 ∙ ap (Phase.Collecting c.commit) kept
+  phase_is most (Err FinishFault.Memory) left now kept fits goes = ap phase_of goes.1 ∙ ap (Phase.Collecting c.commit) kept
 
 pub each_look : (P Q : Reply → Type 0) (result : Result Looked FinishFault) → (HasAnswer result → (reply : Reply) → P reply → Q reply) → LookReplies result P → LookReplies result Q
 each_look P Q (Ok Looked.Running) each is = each tt Reply.Running is
@@ -350,9 +350,9 @@ module _ (r : Repository) (c : Collection) (reaped : Reaped) (kept : c.exit ≡ 
   abbrev met : Conditions
   met = met_of (Child.Ended reaped) result left difference
 
-  pub turns_end : (now : Option Collection) → GoesOnAs result c now → LookReplies result (λ reply. (work : Work) → TurnsBy (state_at r (phase_of (Some c)) work) command met reply (state_at (after_by result r c) (phase_of now) work))
-  turns_end now goes =
-      let same = phase_is r c reaped result left now kept fits goes in
+  pub turns_end : (most : ℕ) (now : Option Collection) → GoesOnAs most result c now → LookReplies result (λ reply. (work : Work) → TurnsBy (state_at r (phase_of (Some c)) work) command met reply (state_at (after_by result r c) (phase_of now) work))
+  turns_end most now goes =
+      let same = phase_is r c reaped most result left now kept fits goes in
       each_look (TurnsSo r c reaped result left difference command) (λ reply. (work : Work) → TurnsBy (state_at r (phase_of (Some c)) work) command met reply (state_at (after_by result r c) (phase_of now) work)) result
       (λ has reply is work. subst (λ (o : Option Reaped). TurnsBy (state_at r (Phase.Collecting c.commit o) work) command met reply (state_at (after_by result r c) (phase_of now) work)) (sym kept)
       (subst (λ (p : Phase). TurnsBy (kept_state r c reaped work) command met reply (state_at (after_by result r c) p work)) (sym same) (is work)))

@@ -47,7 +47,7 @@ use Rattle.ip_held.specs.declared.collection.Collection.{Collection}
 use Rattle.ip_held.specs.declared.held.Held.{Held}
 use Rattle.ip_held.specs.Collecting.{Collects, HasEnded, IsGoing, IsOfChild, IsPhase, until}
 use Rattle.ip_collects.specs.CollectFaults.{counted_finish}
-use Rattle.ip_collects.specs.Finishing.{IsUndamaged, looked_at, looked_of}
+use Rattle.ip_collects.specs.Finishing.{IsUndamaged, LooksOn, looked_at, looked_of}
 use Rattle.ip_collects.specs.declared.finishing.FinishFault.{FinishFault}
 use Rattle.ip_collects.specs.Judging.{EndsCheck, FindsNone, FitsExit, IsBlamedIn, IsCheckOf, IsDamagedIn, IsNextCheck, IsOpen, IsThrough, SlicesBy, TellsVerdict, verdict_by, with_check}
 use Rattle.ip_held.specs.Held.{IsOf, Holds, OwnsPair}
@@ -270,9 +270,9 @@ module _ (store : Held) (r : Repository) (c : Collection) (runs : store.collecti
         sliced_says (Ok (Outcome.Differs difference)) left says = subst (λ (j : Job). IsVerdict (until c.job.end held.stands.standing.records) j (found_in a.held j.attempt) (Some difference)) next.of.job says
         sliced_says (Err fault) left says = tt
 
-      -- what was looked at is not to be looked at again
-      pub looks_on : (most : ℕ) (result : Result Outcome CheckFault) → Advances most k now result → looked_at c ≤ looked_by now
-      looks_on most result goes = subst (λ (n : ℕ). n ≤ looked_by now) next.looked goes.low
+      -- what was looked at is not to be looked at again, and at most so many more were looked at
+      pub looks_on : (most : ℕ) (result : Result Outcome CheckFault) → Advances most k now result → LooksOn most c (Some now)
+      looks_on most result goes = subst (λ (n : ℕ). (n ≤ looked_by now) × (looked_by now ≤ n + most)) next.looked (goes.low, goes.high)
 
       pub slices : (most left : ℕ) (result : Result Outcome CheckFault) → Advances most k now result → left + now.keep.next ≡ now.job.end → SlicesBy most c (verdict_by result left) (Some (record c { check = Some now }))
       slices most left (Ok Outcome.More) goes rest = (goes.ends, goes.more refl ∙ ap (λ (n : ℕ). n + most) next.looked, rest ∙ ap (λ (j : Job). j.end) (same.job ∙ next.of.job))
@@ -372,7 +372,8 @@ memory_check c now (Ok Outcome.Valid) left unsaid is = absurd (cc (is))
 memory_check c now (Ok (Outcome.Differs difference)) left unsaid is = absurd (cc (is))
 memory_check c now (Err fault) left unsaid is = λ difference. unsaid refl (Some difference)
 
-pub unsaid_check : (c : Collection) (now : CheckView) (result : Result Outcome CheckFault) (left : ℕ) → (IsErr result → (told : Option Difference) → now.stage ≢ Stage.Through told) → verdict_by result left ≡ Err FinishFault.Memory → ¬ IsThrough (Some (record c { check = Some now }))
+-- nor behind any fault one that the pair is valid
+pub unsaid_check : (c : Collection) (now : CheckView) (result : Result Outcome CheckFault) (left : ℕ) → (IsErr result → (told : Option Difference) → now.stage ≢ Stage.Through told) → IsErr (verdict_by result left) → ¬ IsThrough (Some (record c { check = Some now }))
 unsaid_check c now (Ok Outcome.More) left unsaid is = absurd (cc (is))
 unsaid_check c now (Ok Outcome.Valid) left unsaid is = absurd (cc (is))
 unsaid_check c now (Ok (Outcome.Differs difference)) left unsaid is = absurd (cc (is))
@@ -398,8 +399,8 @@ begun_next c over none (Ok k) is check checking = record {
 }
 
 -- no check was kept, so nothing is lost
-pub none_looked : (c : Collection) (check : Option CheckView) → c.check ≡ None → looked_at c ≤ looked_of check
-none_looked c check none = subst (λ (n : ℕ). n ≤ looked_of check) (sym (ap looked_of none)) (omega arith)
+pub none_looked : (most : ℕ) (c : Collection) → c.check ≡ None → LooksOn most c None
+none_looked most c none = subst (λ (n : ℕ). (n ≤ 0) × (0 ≤ n + most)) (sym (ap looked_of none)) (omega arith, omega arith)
 
 -- ---- the store that it is kept in
 

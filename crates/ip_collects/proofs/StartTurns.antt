@@ -28,8 +28,8 @@ use Rattle.ip_collects.specs.declared.starting.Start.{Start}
 use Rattle.ip_held.specs.declared.held.Held.{Held}
 use Rattle.ip_held.specs.Collecting.{IsGoing, Collects, phase_of, IsPhaseOf}
 use Rattle.ip_held.specs.Answers.{Turns, conditions_of, met_nothing}
-use Rattle.ip_publish.specs.Publishing.{MayChange}
-use Rattle.ip_collects.specs.Starting.{branch_name_at, met_by_start, Replies, AnswersStart, IsBegun, LimitsStart, RefusesStart, IsStart, Begins, StartsCollection, new_collection}
+use Rattle.ip_publish.specs.Publishing.{IsWritten, MayChange}
+use Rattle.ip_collects.specs.Starting.{branch_name_at, met_by_start, Replies, AnswersStart, IsBegun, LimitsStart, RefusesStart, IsStart, Begins, StartsCollection, end_behind, new_collection}
 use Rattle.ip_held.specs.TableRecord.{table_of}
 use Rattle.ip_held.specs.Held.{IsOf, Holds, image_records}
 use Rattle.ip_held.specs.Trees.{RecordsStay}
@@ -263,6 +263,8 @@ started_phase r store number start retained free is = record { retained = retain
 pub starts_none : {A : Type 0} (r : Repository) (store store' : Held) (told : Told) (fault : CollectFault) → ¬ (IsBegun {A = A} (Err fault)) → Holds store told r → StartsCollection {A = A} r store.slot.next_attempt (Err fault) store' told told
 starts_none r store store' told fault not held = record {
   only = for_only store.slot.next_attempt (MayChange told.held) told told (only_nowhere told (MayChange told.held)) (keeps_itself told);
+  written = λ s has. for_only store.slot.next_attempt (IsWritten s.chunk s.end (end_behind r s)) told told (only_nowhere told (IsWritten s.chunk s.end (end_behind r s))) (keeps_itself told);
+  behind = λ s has at high. refl;
   files = keeps_itself told;
   holds = λ begins. absurd (not begins);
   lent = λ begins. absurd (not begins);
@@ -279,6 +281,8 @@ starts_none r store store' told fault not held = record {
 pub starts_with : {A B : Type 0} (r : Repository) (n m : ℕ) (res : Result A CollectFault) (out : Result B CollectFault) (store now : Held) (old new : Told) → m ≡ n → (IsBegun out → IsBegun res) → (IsBegun res → Holds store new r → Holds now new r) → now.slot ≡ store.slot → StartsCollection r n res store old new → StartsCollection r m out now old new
 starts_with r n m res out store now old new same begun holds slot is = subst (λ (k : ℕ). StartsCollection r k out now old new) (sym same) (record {
   only = is.only;
+  written = is.written;
+  behind = is.behind;
   files = is.files;
   holds = λ begins. holds (begun begins) (is.holds (begun begins));
   lent = λ begins. is.lent (begun begins);

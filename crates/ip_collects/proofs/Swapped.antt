@@ -265,4 +265,4 @@ module _ (store : Held) (r : Repository) (a : Told) (held : Holds store a r) whe
 
 pub turns_err : (slot : ℕ) (fields : Slot) (r s : Result (Unit {0}) GroundFault) (a b : Told) → IsErr s → TurnsGate slot fields r a b → TurnsGate slot fields s a b
 turns_err slot fields r (Ok u) a b err turns = absurd (cc (err))
-turns_err slot fields r (Err e) a b err turns = record { only = turns.only; live = turns.live; kept = tt; opens = tt }
+turns_err slot fields r (Err e) a b err turns = record { changes = turns.changes; live = turns.live; kept = tt; opens = tt }

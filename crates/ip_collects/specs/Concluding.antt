@@ -2,7 +2,7 @@
 --     asking wait      the command.      most_of wait      so many records are looked at, at most
 --     AsksChild wait attempt child tells x y m n      what is asked of the spawner, and what it tells and counts then
 --     ConcludesAs tells wait result met store now old new      all that is promised of the call, but for the child and the ground's counts
-use Rattle.std.specs.Prelude.{◌≡◌, ◌+◌, ◌-◌, ◌^◌, ◌≤◌, ℕ, Bool, true, false, [], ◌∷◌, ◌++◌, Some, Result, IsErrOf, IsTrue, count_by}
+use Rattle.std.specs.Prelude.{◌≡◌, ◌+◌, ◌-◌, ◌^◌, ◌≤◌, ℕ, Bool, true, false, [], ◌∷◌, ◌++◌, Some, Result, IsErrOf, IsTrue}
 use Rattle.ip_base.specs.declared.exit.Reaped.{Reaped}
 use Rattle.ip_ground.specs.Told.{Told, NoFile}
 use Rattle.ip_spawn.specs.Children as spawn
@@ -13,7 +13,6 @@ use Rattle.ip_spec.specs.declared.met.Child.{Child}
 use Rattle.ip_spec.specs.declared.met.Met.{Met}
 use Rattle.ip_spec.specs.Repository.{Repository}
 use Rattle.ip_image.specs.Pending.{NothingPending}
-use Rattle.ip_keep.specs.Keeping.{starts_between}
 use Rattle.ip_held.specs.declared.collection.Collection.{Collection}
 use Rattle.ip_held.specs.declared.held.Held.{Held}
 use Rattle.ip_held.specs.Clear.{KeepsClear, ClearsAll}
@@ -23,7 +22,7 @@ use Rattle.ip_held.specs.Sweeping.{EndsFor}
 use Rattle.ip_held.specs.Tie.{IsTied}
 use Rattle.ip_collects.specs.CollectEvents.{ending, finish_events}
 use Rattle.ip_collects.specs.Ending.{AwaitsChild, Goes, SeesChild}
-use Rattle.ip_collects.specs.Finishing.{Concludes, FinishesBy, HasAnswer, IsAsked, IsCollected, IsSweptBehind, IsUndamaged, LookReplies, WorksStay, conditions_by, looked_at}
+use Rattle.ip_collects.specs.Finishing.{Concludes, FinishesBy, HasAnswer, IsAsked, IsAccepted, IsSweptBehind, IsUndamaged, LookReplies, LooksWithin, WorksStay, conditions_by}
 use Rattle.ip_collects.specs.Judging.{IsBlamedIn, IsDamagedIn}
 use Rattle.ip_collects.specs.declared.finishing.FinishFault.{FinishFault}
 use Rattle.ip_collects.specs.declared.finishing.Looked.{Looked}
@@ -53,9 +52,8 @@ pub record ConcludesAs (tells wait : Bool) (result : Result Looked FinishFault) 
   pub blames : (at : ℕ) → IsErrOf result (FinishFault.Damaged at) → IsBlamedIn now.collection at
   -- and where no child changes the live pair, what is wrong there
   pub broken : IsTrue tells → OwnsPair old store.slot → (at : ℕ) → IsErrOf result (FinishFault.Damaged at) → IsDamagedIn new now.collection at
-  -- where it is collected no more records were looked at than a call looks at: those from the commit on are not more than these and what was looked at before
-  pub bounded : IsTrue tells → (r : Repository) (held : Holds store old r) (c : Collection) → store.collection ≡ Some c → IsCollected result →
-      count_by (starts_between c.job.horizon c.job.end) held.stands.standing.records ≤ looked_at c + most_of wait
+  -- where the pair is valid no more records were looked at than a call looks at: all looks of the check are not more than these and those before
+  pub bounded : IsTrue tells → (r : Repository) (held : Holds store old r) (c : Collection) → store.collection ≡ Some c → IsAccepted result → LooksWithin (most_of wait) held.stands.standing.records c
   pub works_stay : IsTrue tells → HasAnswer result → (r q : Repository) (held : Holds store old r) (still : Holds now new q) → WorksStay held still
   -- What was cleared stays so, and behind a sweep that left nothing all is.
   pub clear : IsTrue tells → HasAnswer result → (r : Repository) → Holds store old r → KeepsClear store now old new × ClearsAll (IsSweptBehind result) met.left store now old new

@@ -2,7 +2,7 @@
 --     IsHeardIn running child      so it may be heard, where this collection runs.      held_behind child held      the child that is held then
 --     SeesChild, AwaitsChild attempt child tells x y m n      what is asked of the spawner, and what it tells and counts then
 --     Listens attempt old new      what it does to what a ground tells that the end of a child is known
---     FitsEnd exit c left result      what an answer tells of the exit.      GoesOnAs result c now      whether the collection goes on
+--     FitsEnd exit c left result      what an answer tells of the exit.      GoesOnAs most result c now      whether the collection goes on
 --     after_by result r c      the repository then.      after_with result difference r c      the machine's, by the difference that there is
 --     Ends exit most c result left store now      what it does that the child has ended so.      EndsBy records r c result u left store old new      where the ground tells
 --     Goes child most result met store now      and what the whole call does, whatever was heard
@@ -37,7 +37,7 @@ use Rattle.ip_collects.specs.declared.finishing.Looked.{Looked}
 use Rattle.ip_collects.specs.declared.finishing.Rejection.TheVariants as Rejection
 use Rattle.ip_held.specs.declared.held.Held.{Held}
 use Rattle.ip_held.specs.Collecting.{child_of}
-use Rattle.ip_collects.specs.Finishing.{LookReplies, Concludes, HasAnswer, IsAsked, IsChecking, IsCollected, IsKept, IsOver, IsQuiet, IsSweptBehind, FinishesAs, KeepsCollection, LimitsFinish, SlotBy, Slices, child_reaped, child_seen, conditions_by, looked_at, looked_of, met_by_finish, unswept_by}
+use Rattle.ip_collects.specs.Finishing.{LookReplies, Concludes, HasAnswer, IsAsked, IsChecking, IsCollected, IsKept, IsOver, IsQuiet, IsSweptBehind, IsUndamaged, FinishesAs, KeepsCollection, LimitsFinish, LooksOn, SlotBy, Slices, child_reaped, child_seen, conditions_by, met_by_finish, unswept_by}
 use Rattle.ip_collects.specs.Judging.{FindsNone, FitsRejection, IsThrough, is_zero}
 use Rattle.ip_held.specs.StandsBy.{LeavesSwapped}
 use Rattle.ip_held.specs.Held.{IsOf, Holds}
@@ -88,11 +88,11 @@ FitsEnd exit c left (Err (FinishFault.Limit limit)) = is_zero exit × (limit ≡
 FitsEnd exit c left result = is_zero exit
 
 -- else it is kept, with its check as far as it is
-abbrev pub GoesOnAs : Result Looked FinishFault → Collection → Option Collection → Type 0
-GoesOnAs (Ok (Looked.Collected collected)) c now = now ≡ None
-GoesOnAs (Err (FinishFault.Rejected rejection)) c now = now ≡ None
-GoesOnAs (Err (FinishFault.Limit limit)) c now = now ≡ None
-GoesOnAs result c now = (check : Option CheckView) × (now ≡ Some (record c { check = check })) × (looked_at c ≤ looked_of check)
+abbrev pub GoesOnAs : ℕ → Result Looked FinishFault → Collection → Option Collection → Type 0
+GoesOnAs most (Ok (Looked.Collected collected)) c now = now ≡ None
+GoesOnAs most (Err (FinishFault.Rejected rejection)) c now = now ≡ None
+GoesOnAs most (Err (FinishFault.Limit limit)) c now = now ≡ None
+GoesOnAs most result c now = (check : Option CheckView) × (now ≡ Some (record c { check = check })) × LooksOn most c check
 
 abbrev pub after_by : Result Looked FinishFault → Repository → Collection → Repository
 after_by (Ok (Looked.Collected collected)) r c = collected_at r c.commit
@@ -102,8 +102,9 @@ pub record Ends (exit : Exit) (most : ℕ) (c : Collection) (result : Result Loo
   pub fits : FitsEnd exit c left result
   pub through : result ≡ Err FinishFault.Memory → FindsNone now.collection
   pub sequence : result ≡ Err FinishFault.Memory → IsThrough now.collection → store.slot.sequence < OFFSET_MAX
+  pub room : result ≡ Err FinishFault.Ground → IsThrough now.collection → store.slot.sequence < OFFSET_MAX
   pub none : ¬ IsSweptBehind result → left ≡ 0
-  pub goes_on : GoesOnAs result c now.collection
+  pub goes_on : GoesOnAs most result c now.collection
   pub tables : (r : Repository) → IsOf store r → HasAnswer result → IsOf now (after_by result r c)
   pub sliced : Slices most c result now.collection
   pub whole : most ≡ 2 ^ 64 - 1 → ¬ IsChecking result
@@ -160,8 +161,14 @@ pub record Goes (child : Child) (most : ℕ) (result : Result Looked FinishFault
   pub through : result ≡ Err FinishFault.Memory → FindsNone now.collection
   -- nor where it has found the pair valid and the sequence is at its end
   pub sequence : result ≡ Err FinishFault.Memory → IsThrough now.collection → store.slot.sequence < OFFSET_MAX
+  -- Damage is found only in the check of what a child wrote that ended with code 0,
+  pub damage : ¬ IsUndamaged result → (reaped : Reaped) → child ≡ Child.Ended reaped → is_zero reaped.exit
+  -- and where how it ended had been kept a fault of the ground is met only behind such an end,
+  pub fault : result ≡ Err FinishFault.Ground → (c : Collection) (reaped : Reaped) → store.collection ≡ Some c → c.exit ≡ Some reaped → is_zero reaped.exit
+  -- and never in the place of the limit: once the check has found the pair valid, only where the sequence goes on.
+  pub room : result ≡ Err FinishFault.Ground → IsThrough now.collection → store.slot.sequence < OFFSET_MAX
   -- how the child ended is kept where it is not over, and so is the check
-  pub goes_on : IsKept result → (c : Collection) (reaped : Reaped) → store.collection ≡ Some c → child ≡ Child.Ended reaped → KeepsCollection c reaped now.collection
+  pub goes_on : IsKept result → (c : Collection) (reaped : Reaped) → store.collection ≡ Some c → child ≡ Child.Ended reaped → KeepsCollection most c reaped now.collection
   pub sliced : (c : Collection) → store.collection ≡ Some c → Slices most c result now.collection
   pub whole : most ≡ 2 ^ 64 - 1 → ¬ IsChecking result
   pub running : child ≢ Child.Running → result ≢ Ok Looked.Running

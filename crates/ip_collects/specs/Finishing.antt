@@ -4,15 +4,15 @@
 --     difference_in result, conditions_by met result      with the difference that is told
 --     TurnsBy s command met reply s'      the reply and the next state are the machine's
 --     Concludes r running command met store reply      so whatever the work is, and the tables are the next repository's
---     HasAnswer result      it is no fault of the ground or of its files.      IsUndamaged result      it is none of the files.      IsOver result      no collection runs any more.      IsSweptBehind result      a sweep follows
+--     HasAnswer result      it is no fault of the ground or of its files.      IsUndamaged result      it is none of the files.      IsOver result      no collection runs any more.      IsAccepted result      the pair was found to be valid.      IsSweptBehind result      a sweep follows
 --     swapped_slot s u c length rows      the slot of the swap
---     looked_of check, looked_at c      how many records were looked at.      LooksWithin most records c      no more were to be looked at from the commit on than these and those before.      KeepsCollection c reaped now      it is the same; how its child ended is kept, and its check
+--     looked_of check, looked_at c      how many records were looked at.      LooksWithin most records c      all looks of the check are no more than these and those before.      LooksOn most c check      no fewer were made than before, and at most so many more.      KeepsCollection most c reaped now      it is the same; how its child ended is kept, and its check
 --     IsSliced most c left now      a check that is not through, behind a slice of it.      Slices most c result now      so it is where an answer says so.      fault_by fault      a fault of the check
 --     CountsFinish result left old new      removals that failed are counted, and damage that was found.      unswept_by result left s u      what is unswept then
 --     Judges records c met told      the difference is that of the settled pair.      WorksStay held now      works are lawful, or given up
 --     FinishesAs r after c result u left store old new      what it does to what a ground tells, and what the store holds then
 --     FinishesBy records r c command result u said store old new      and that it is the machine's
-use Rattle.std.specs.Prelude.{◌≡◌, ◌≢◌, ◌⊎◌, ◌==◌, if◌then◌else◌, ℕ, ◌+◌, ◌<◌, ◌≤◌, Bool, true, false, Option, Some, None, Result, Ok, Err, IsSomeAnd, count_by}
+use Rattle.std.specs.Prelude.{◌≡◌, ◌≢◌, ◌⊎◌, ◌==◌, if◌then◌else◌, ℕ, ◌+◌, ◌<◌, ◌≤◌, Bool, true, false, Option, Some, None, Result, Ok, Err, IsSomeAnd}
 use Rattle.ip_base.specs.declared.limit.TheConstants.{OFFSET_MAX}
 use Rattle.ip_base.specs.declared.limit.Limit.{Limit}
 use Rattle.ip_ground.specs.declared.names.FileName.{FileName}
@@ -37,9 +37,8 @@ use Rattle.ip_spec.specs.View.{View}
 use Rattle.ip_image.specs.declared.slot.Slot.{Slot}
 use Rattle.ip_check.specs.declared.fault.CheckFault.{CheckFault}
 use Rattle.ip_check.specs.CheckView.{CheckView}
-use Rattle.ip_check.specs.Checking.{looked_by}
+use Rattle.ip_check.specs.Checking.{LooksAtAll, looked_by}
 use Rattle.ip_check.specs.Going.{IsOpen}
-use Rattle.ip_keep.specs.Keeping.{starts_between}
 use Rattle.ip_image.specs.Collected.{remaining}
 use Rattle.ip_image.specs.Collection.{IsJudged, IsKept as AreKept}
 use Rattle.ip_image.specs.Headline.{RecoversTo, IsAtomic}
@@ -51,7 +50,7 @@ use Rattle.ip_collects.specs.declared.finishing.Looked.{Looked}
 use Rattle.ip_collects.specs.declared.finishing.Rejection.{Rejection}
 use Rattle.ip_held.specs.declared.held.Held.{Held}
 use Rattle.ip_held.specs.declared.work.Work.{Work}
-use Rattle.ip_held.specs.Collecting.{phase_of}
+use Rattle.ip_held.specs.Collecting.{phase_of, until}
 use Rattle.ip_held.specs.StandsBy.{LeavesSwapped}
 use Rattle.ip_held.specs.Held.{IsOf, Holds, image_records}
 use Rattle.ip_held.specs.Slots.{KeepsSlots}
@@ -140,6 +139,12 @@ abbrev pub IsCollected : Result Looked FinishFault → Type 0
 IsCollected (Ok (Looked.Collected collected)) = Unit {0}
 IsCollected result = ⊥
 
+-- the pair was found to be valid
+abbrev pub IsAccepted : Result Looked FinishFault → Type 0
+IsAccepted (Ok (Looked.Collected collected)) = Unit {0}
+IsAccepted (Err (FinishFault.Limit limit)) = Unit {0}
+IsAccepted result = ⊥
+
 -- a sweep follows
 abbrev pub IsSweptBehind : Result Looked FinishFault → Type 0
 IsSweptBehind (Ok (Looked.Collected collected)) = Unit {0}
@@ -195,18 +200,21 @@ looked_of (Some check) = looked_by check
 abbrev pub looked_at : Collection → ℕ
 looked_at c = looked_of c.check
 
--- no more records start from the commit on than were looked at before, and these in this call
+-- all looks of the check are no more than were made before, and these in this call
 abbrev pub LooksWithin : ℕ → Records → Collection → Type 0
-LooksWithin most records c = count_by (starts_between c.job.horizon c.job.end) records ≤ looked_at c + most
+LooksWithin most records c = LooksAtAll (until c.job.end records) c.job (looked_at c + most)
 
-pub record KeepsCollection (c : Collection) (reaped : Reaped) (now : Option Collection) : Type 0 where
+-- no record that was looked at is to be looked at again, and at most so many more were looked at
+abbrev pub LooksOn : ℕ → Collection → Option CheckView → Type 0
+LooksOn most c check = (looked_at c ≤ looked_of check) × (looked_of check ≤ looked_at c + most)
+
+pub record KeepsCollection (most : ℕ) (c : Collection) (reaped : Reaped) (now : Option Collection) : Type 0 where
   pub same : Collection
   pub is : now ≡ Some same
   pub commit : same.commit ≡ c.commit
   pub job : same.job ≡ c.job
   pub exit : same.exit ≡ Some reaped
-  -- no record that was looked at is to be looked at again
-  pub looked : looked_at c ≤ looked_at same
+  pub looked : LooksOn most c same.check
 
 -- It is not through: so many records were looked at in this call, and so many bytes are left.
 abbrev pub IsSliced : ℕ → Collection → ℕ → Option Collection → Type 0

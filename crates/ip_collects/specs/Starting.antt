@@ -10,6 +10,7 @@
 --     begun_slot s length      the slot behind the record of branches
 --     IsJobAt store number now job      the job that the child is given.      started_by dir job result      the children that were started, in this folder
 --     IsStart r store number start      what will be done, whatever is told.      begun store start      the store behind the step
+--     end_behind r s      where the table of branches ends that is put behind a slot's records
 --     Begins r store now old new      the record stands behind those that there were, and the slot says so
 --     StartsCollection r attempt result store old new      what it does to what a ground tells, and what the store holds then
 --     BeginsCollecting tells number result store now old new      all that is promised of the call, but for the child and the ground's counts
@@ -33,6 +34,7 @@ use Rattle.ip_spec.specs.Repository.{Repository, is_retained, name_at}
 use Rattle.ip_spec.specs.Step.{resolve, held_branch}
 use Rattle.ip_image.specs.declared.slot.Slot.{Slot}
 use Rattle.ip_image.specs.Headline.{RecoversTo}
+use Rattle.ip_image.specs.Virtual.{chunk_byte}
 use Rattle.ip_image.specs.Pending.{HasLive, SameSpace, crash_at, crash_now, NothingPending, AllFlushed, KeepsSpace}
 use Rattle.ip_space.specs.SpaceView.{grown}
 use Rattle.ip_held.specs.declared.collection.Collection.{Collection}
@@ -48,7 +50,7 @@ use Rattle.ip_held.specs.Tie.{IsTied, appending}
 use Rattle.ip_held.specs.Trees.{RecordsStay}
 use Rattle.ip_held.specs.Collecting.{phase_of, carried, IsJobOf}
 use Rattle.ip_held.specs.Answers.{Turns, met_nothing}
-use Rattle.ip_publish.specs.Publishing.{IsOfStore, MayChange}
+use Rattle.ip_publish.specs.Publishing.{IsOfStore, IsWritten, MayChange}
 use Rattle.ip_held.specs.Held.{IsOf, Holds, image_records, place_of_commit}
 use Rattle.ip_held.specs.Sweeping.{ChangesFor, KeepsFiles}
 use Rattle.ip_held.specs.Work.{state_at}
@@ -155,9 +157,16 @@ pub record Begins (r : Repository) (store now : Held) (old new : Told) : Type 0 
   pub slot : now.slot ≡ begun_slot (carried store) (length (spelling (table_of r)))
   pub records : (q : Repository) (before : Holds store old r) (after : Holds now new q) → after.stands.standing.records ≡ before.stands.standing.records ++ (store.slot.end, table_of r) ∷ []
 
+-- where the table of the branches ends that is put behind the records of a slot
+abbrev pub end_behind : Repository → Slot → ℕ
+end_behind r s = s.end + length (spelling (table_of r))
+
 -- The repository stays. The attempt is the one that came next.
 pub record StartsCollection {A : Type 0} (r : Repository) (attempt : ℕ) (result : Result A CollectFault) (store : Held) (old new : Told) : Type 0 where
   pub only : ChangesFor attempt (MayChange old.held) old new
+  -- of the chunks those alone that hold a byte of the table, and no byte behind it
+  pub written : (s : Slot) → HasLive s old.held → ChangesFor attempt (IsWritten s.chunk s.end (end_behind r s)) old new
+  pub behind : (s : Slot) → HasLive s old.held → (at : ℕ) → end_behind r s ≤ at → chunk_byte s.chunk new.held at ≡ chunk_byte s.chunk old.held at
   pub files : KeepsFiles old new
   pub holds : IsBegun result → Holds store new r
   pub lent : IsBegun result → lending new attempt ≡ lent

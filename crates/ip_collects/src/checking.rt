@@ -10,7 +10,7 @@ ghost use Rattle.ip_spec.specs.Repository.{Repository};
 ghost use Rattle.ip_collects.specs.CollectFaults.{counted_finish};
 ghost use Rattle.ip_collects.specs.declared.finishing.FinishFault.TheVariants as FinishFault;
 ghost use Rattle.ip_collects.specs.declared.checking.Verdict.TheVariants as Verdict;
-ghost use Rattle.ip_collects.specs.Finishing.{IsUndamaged, LooksWithin, looked_at, looked_of};
+ghost use Rattle.ip_collects.specs.Finishing.{IsUndamaged, LooksOn, LooksWithin};
 ghost use Rattle.ip_collects.specs.Judging.{FindsNone, FitsExit, EndsCheck, IsBlamedIn, IsDamagedIn, IsCheckOf, IsNextCheck, IsOpen, IsThrough, SlicesBy, TellsVerdict, verdict_by, with_check};
 ghost use Rattle.ip_held.specs.Held.{IsOf, Holds, OwnsPair};
 ghost use Rattle.ip_held.specs.declared.collection.Collection.{Collection as CollectionValue};
@@ -45,7 +45,7 @@ pub(crate) fn judge<G: Ground>(
     requires tables { (r : Repository) × IsOf store.old r }
     requires running { (c : CollectionValue) × (store.old.collection ≡ Some c) × IsSome c.exit }
     ensures tables { (r : Repository) → IsOf store.old r → IsOf store.new r }
-    ensures check { (c : CollectionValue) → store.old.collection ≡ Some c → (check : Option CheckView) × (store.new ≡ with_check store.old c check) × (looked_at c ≤ looked_of check) }
+    ensures check { (c : CollectionValue) → store.old.collection ≡ Some c → (check : Option CheckView) × (store.new ≡ with_check store.old c check) × LooksOn most c check }
     ensures fits { FitsExit exit result }
     ensures ends { EndsCheck result store.new.collection }
     ensures sliced { (c : CollectionValue) → store.old.collection ≡ Some c → SlicesBy most c result store.new.collection }
@@ -57,7 +57,7 @@ pub(crate) fn judge<G: Ground>(
     ensures blames { (at : ℕ) → IsErrOf result (FinishFault.Damaged at) → IsBlamedIn store.new.collection at }
     ensures broken { IsTrue G.tells → OwnsPair (G.told outside.old) store.old.slot → (at : ℕ) → IsErrOf result (FinishFault.Damaged at) → IsDamagedIn (G.told outside.new) store.new.collection at }
     ensures through { result ≡ Err FinishFault.Memory → FindsNone store.new.collection }
-    ensures unsaid { result ≡ Err FinishFault.Memory → ¬ IsThrough store.new.collection }
+    ensures unsaid { IsErr result → ¬ IsThrough store.new.collection }
     ensures only { IsTrue G.tells → ChangesOnly NoFile (G.told outside.old) (G.told outside.new) }
     ensures counts { Counts counted_finish result (G.counts_of outside.old) (G.counts_of outside.new) }
 {
@@ -78,7 +78,7 @@ fn check<G: Ground>(
     requires tables { (r : Repository) × IsOf store.old r }
     requires running { (c : CollectionValue) × (store.old.collection ≡ Some c) × IsSome c.exit }
     ensures tables { (r : Repository) → IsOf store.old r → IsOf store.new r }
-    ensures check { (c : CollectionValue) → store.old.collection ≡ Some c → (check : Option CheckView) × (store.new ≡ with_check store.old c check) × (looked_at c ≤ looked_of check) }
+    ensures check { (c : CollectionValue) → store.old.collection ≡ Some c → (check : Option CheckView) × (store.new ≡ with_check store.old c check) × LooksOn most c check }
     ensures fits { FitsExit (Exit.Code (pos 0)) result }
     ensures ends { EndsCheck result store.new.collection }
     ensures sliced { (c : CollectionValue) → store.old.collection ≡ Some c → SlicesBy most c result store.new.collection }
@@ -90,7 +90,7 @@ fn check<G: Ground>(
     ensures blames { (at : ℕ) → IsErrOf result (FinishFault.Damaged at) → IsBlamedIn store.new.collection at }
     ensures broken { IsTrue G.tells → OwnsPair (G.told outside.old) store.old.slot → (at : ℕ) → IsErrOf result (FinishFault.Damaged at) → IsDamagedIn (G.told outside.new) store.new.collection at }
     ensures through { result ≡ Err FinishFault.Memory → FindsNone store.new.collection }
-    ensures unsaid { result ≡ Err FinishFault.Memory → ¬ IsThrough store.new.collection }
+    ensures unsaid { IsErr result → ¬ IsThrough store.new.collection }
     ensures only { IsTrue G.tells → ChangesOnly NoFile (G.told outside.old) (G.told outside.new) }
     ensures counts { Counts counted_finish result (G.counts_of outside.old) (G.counts_of outside.new) }
 {

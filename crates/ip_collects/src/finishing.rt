@@ -10,7 +10,7 @@ ghost use Rattle.ip_spec.specs.Repository.{Repository};
 ghost use Rattle.ip_held.specs.Collecting.{child_of};
 ghost use Rattle.ip_collects.specs.Concluding.{AsksChild, ConcludesAs};
 ghost use Rattle.ip_collects.specs.Ending.{Ends, EndsBy, Goes, IsHeardIn, Listens, MayBeHeard, held_behind};
-ghost use Rattle.ip_collects.specs.Finishing.{fault_by, met_by_finish, HasAnswer, IsAsked, IsCollected, IsUndamaged, IsQuiet, CountsFinish, FinishesBy, LooksWithin, WorksStay};
+ghost use Rattle.ip_collects.specs.Finishing.{fault_by, met_by_finish, HasAnswer, IsAccepted, IsAsked, IsUndamaged, IsQuiet, CountsFinish, FinishesBy, LooksWithin, WorksStay};
 ghost use Rattle.ip_collects.specs.Judging.{IsBlamedIn, IsDamagedIn};
 ghost use Rattle.ip_held.specs.Held.{IsOf, Holds, OwnsPair};
 ghost use Rattle.ip_held.specs.Sweeping.{EndsFor};
@@ -195,7 +195,7 @@ fn judged<G: Ground>(
     ensures ends { (c : Collection) → store.old.collection ≡ Some c → Ends reaped.exit most c result.0 result.1 store.old store.new }
     ensures any_moment { IsTrue G.tells → (r : Repository) (held : Holds store.old (G.told outside.old) r) (c : Collection) → store.old.collection ≡ Some c →
         EndsBy held.stands.standing.records r c result.0 store.old.unswept result.1 store.new (G.told outside.old) (G.told outside.new) }
-    ensures bounded { IsTrue G.tells → (r : Repository) (held : Holds store.old (G.told outside.old) r) (c : Collection) → store.old.collection ≡ Some c → IsCollected result.0 → LooksWithin most held.stands.standing.records c }
+    ensures bounded { IsTrue G.tells → (r : Repository) (held : Holds store.old (G.told outside.old) r) (c : Collection) → store.old.collection ≡ Some c → IsAccepted result.0 → LooksWithin most held.stands.standing.records c }
     ensures undamaged { IsTrue G.tells → (r : Repository) → Holds store.old (G.told outside.old) r → IsUndamaged result.0 }
     ensures untouched { IsTrue G.tells → ¬ IsUndamaged result.0 → ChangesOnly NoFile (G.told outside.old) (G.told outside.new) }
     ensures blames { (at : ℕ) → IsErrOf result.0 (FinishFault.Damaged at) → IsBlamedIn store.new.collection at }
@@ -236,7 +236,7 @@ fn goes<G: Ground>(
     ensures quiet { IsQuiet result.0 → outside.new ≡ outside.old }
     ensures any_moment { IsTrue G.tells → (r : Repository) (held : Holds store.old (G.told outside.old) r) (c : Collection) (reaped : ReapedValue) → store.old.collection ≡ Some c → child ≡ Heard.Ended reaped → (command : CommandValue) → IsAsked command result.0 →
         FinishesBy held.stands.standing.records r c command result.0 store.old.unswept (met_by_finish child result.0 result.1) store.new (G.told outside.old) (G.told outside.new) }
-    ensures bounded { IsTrue G.tells → (r : Repository) (held : Holds store.old (G.told outside.old) r) (c : Collection) → store.old.collection ≡ Some c → IsCollected result.0 → LooksWithin most held.stands.standing.records c }
+    ensures bounded { IsTrue G.tells → (r : Repository) (held : Holds store.old (G.told outside.old) r) (c : Collection) → store.old.collection ≡ Some c → IsAccepted result.0 → LooksWithin most held.stands.standing.records c }
     ensures undamaged { IsTrue G.tells → (r : Repository) → Holds store.old (G.told outside.old) r → IsUndamaged result.0 }
     ensures untouched { IsTrue G.tells → ¬ IsUndamaged result.0 → (c : Collection) → store.old.collection ≡ Some c → EndsFor c.job.attempt NoFile (G.told outside.old) (G.told outside.new) }
     ensures blames { (at : ℕ) → IsErrOf result.0 (FinishFault.Damaged at) → IsBlamedIn store.new.collection at }

@@ -186,6 +186,7 @@ pub(crate) fn accept<G: Ground>(
     ensures tables { (r : Repository) (c : CollectionValue) → IsOf store.old r → store.old.collection ≡ Some c → Accepts result r c store.old store.new }
     ensures faults { IfErr result IsSwapFault }
     ensures sequence { result ≡ Err FinishFault.Memory → store.old.slot.sequence < OFFSET_MAX }
+    ensures room { result ≡ Err FinishFault.Ground → store.old.slot.sequence < OFFSET_MAX }
     ensures does { IsTrue G.tells → (r : Repository) (held : Holds store.old (G.told outside.old) r) (c : CollectionValue) → store.old.collection ≡ Some c →
         IsVerdict (until c.job.end held.stands.standing.records) c.job (found_in (G.told outside.old).held c.job.attempt) None → AcceptsAs held.stands.standing.records r c result store.new (G.told outside.old) (G.told outside.new) }
     ensures unchanged { IsTurnedDown result → outside.new ≡ outside.old }

@@ -147,7 +147,7 @@ module _ (size from to : ℕ) where
   pub writes_store : (a b : Told) → ChangesOnly (IsWritten size from to) a b → ChangesOnly IsOfStore a b
   writes_store a b only = only_more a b (IsWritten size from to) IsOfStore written_store only
 
-  same_byte : (a b : Told) (at : ℕ) → b.held (Chunk (chunk_of size at)) ≡ a.held (Chunk (chunk_of size at)) → chunk_byte size b.held at ≡ chunk_byte size a.held at
+  pub same_byte : (a b : Told) (at : ℕ) → b.held (Chunk (chunk_of size at)) ≡ a.held (Chunk (chunk_of size at)) → chunk_byte size b.held at ≡ chunk_byte size a.held at
   unfolding chunk_byte
   same_byte a b at same = ap (λ (x : Content). byte_of x (place_in_chunk size at)) same
 

@@ -1,2 +1,3 @@
+pub mod Besides
 pub mod Steps
 pub mod Turning

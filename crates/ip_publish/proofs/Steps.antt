@@ -15,9 +15,11 @@ use Rattle.ip_chunks.specs.Places.{IsChunkBetween}
 use Rattle.ip_chunks.specs.Effects.{Appends, SyncsRange}
 use Rattle.ip_chunks.specs.Fronts.{Holds, Leaves, LeavesSince, AppendsKept}
 use Rattle.ip_chunks.proofs.Behind.{leaves_on, leaves_stay, byte_stays, images_with, holds_stay, holds_front, front_holds, front_ends, stops_at_append, appends_kept}
-use Rattle.ip_control.specs.Live.{Live, live_slot, live_of, IsSpare, IsNewer}
+use Rattle.ip_control.specs.Live.{Live, live_slot, live_of, IsSpare, IsNewer, SameBesides}
 use Rattle.ip_control.specs.Changes.{control, IsReady, Prepares, OpensGate}
+use Rattle.ip_control.proofs.Slots.{besides_itself}
 use Rattle.ip_publish.specs.Publishing.{front_in, StandsAs, CanStep, IsWritten, WritesTo, MakesStep}
+use Rattle.ip_publish.proofs.Besides.{Besides, besides_on}
 
 chunk_not_control : (number : ℕ) → Chunk number ≢ Control
 chunk_not_control number is = cc (is)
@@ -90,6 +92,12 @@ module _ (end : ℕ) (bytes : List ℕ) (slot : ℕ) (fields : Slot) (a : Told) 
     live_ab : EachSince a b Control (λ x. live_of x ≡ before)
     live_ab = each_stays a b Control (λ x. live_of x ≡ before) (λ x. x) control_stays (now_from_kept Control a (λ x. live_of x ≡ before) sound.ready.kept refl)
 
+    besides_ab : Besides slot a b
+    besides_ab = (
+      each_stays a b Control (SameBesides slot (control a)) (λ x. x) control_stays (now_from_kept Control a (SameBesides slot (control a)) sound.ready.kept (besides_itself slot (control a))),
+      subst (λ h. SameBesides slot (control a) h) (sym control_same) (besides_itself slot (control a)),
+    )
+
   module _ (b : Told) (r : Result (Unit {0}) GroundFault) (writes : AppendsKept fields.chunk fields.horizon end front bytes r a b) where
     writes_ab : WritesTo fields.chunk end to a b
     writes_ab = record { only = records_only fields.chunk end to a b writes.only; behind = writes.behind }
@@ -100,7 +108,7 @@ module _ (end : ℕ) (bytes : List ℕ) (slot : ℕ) (fields : Slot) (a : Told) 
         (λ image live holds. inl (live, holds))
 
     stops_at_records : (s : Result (Unit {0}) GroundFault) → IsErr s → MakesStep end bytes slot fields s a b
-    stops_at_records s is_err = record { writes = writes_ab; held = IfOk-from_err s _ is_err; kept = IfOk-from_err s _ is_err; front = λ left. IfOk-from_err s _ is_err; images = images_ab }
+    stops_at_records s is_err = record { writes = writes_ab; inside = (besides_ab b writes.only).0; slots = (besides_ab b writes.only).1; held = IfOk-from_err s _ is_err; kept = IfOk-from_err s _ is_err; front = λ left. IfOk-from_err s _ is_err; images = images_ab }
 
   pub stops_at_write : (b : Told) (r s : Result (Unit {0}) GroundFault) → IsErr s → Appends fields.chunk end bytes r a b → MakesStep end bytes slot fields s a b
   stops_at_write b r s is_err appends =
@@ -128,13 +136,16 @@ module _ (end : ℕ) (bytes : List ℕ) (slot : ℕ) (fields : Slot) (a : Told) 
     writes_ac : WritesTo fields.chunk end to a c
     writes_ac = writes_on fields.chunk end to a b c (writes_ab b (Ok tt) writes) prepared.changes.only
 
+    besides_ac : Besides slot a c
+    besides_ac = besides_on slot a b c prepared.changes.only.goes (besides_ab b writes.only) (prepared.changes.inside, prepared.changes.held)
+
     images_ac : Leaves fields.chunk fields.horizon front a → EachImage a c Either
     images_ac left = images_on a b c Either prepared.changes.only.goes (images_ab b (Ok tt) writes left)
         (images_with fields.chunk fields.horizon (front ++ bytes) b c Control (λ x. live_of x ≡ before) Either prepared.changes.only.said live_bc (both_bc left)
         (λ image live holds. inl (live, holds_front fields.chunk fields.horizon front bytes image holds)))
 
     pub stops_at_prepare : (s : Result (Unit {0}) GroundFault) → IsErr s → MakesStep end bytes slot fields s a c
-    stops_at_prepare s is_err = record { writes = writes_ac; held = IfOk-from_err s _ is_err; kept = IfOk-from_err s _ is_err; front = λ left. IfOk-from_err s _ is_err; images = images_ac }
+    stops_at_prepare s is_err = record { writes = writes_ac; inside = besides_ac.0; slots = besides_ac.1; held = IfOk-from_err s _ is_err; kept = IfOk-from_err s _ is_err; front = λ left. IfOk-from_err s _ is_err; images = images_ac }
 
   -- the gate is opened
   module _ (b c d : Told) (writes : AppendsKept fields.chunk fields.horizon end front bytes (Ok tt) a b) (prepared : Prepares slot fields (Ok tt) b c) (possible : IsPossibleNow c) where
@@ -150,9 +161,14 @@ module _ (end : ℕ) (bytes : List ℕ) (slot : ℕ) (fields : Slot) (a : Told) 
     both_cd : ChangesOnly (Only Control) c d → Leaves fields.chunk fields.horizon front a → LeavesSince fields.chunk fields.horizon (front ++ bytes) c d
     both_cd only left = leaves_stay fields.chunk fields.horizon (front ++ bytes) c d (chunks_stay c d only) (both_c b c writes (Ok tt) prepared left)
 
+    besides_ad : (s : Result (Unit {0}) GroundFault) → OpensGate slot s c d → Besides slot a d
+    besides_ad s opens = besides_on slot a c d opens.changes.only.goes (besides_ac b c writes (Ok tt) prepared) (opens.changes.inside, opens.changes.held)
+
     pub makes_step : (s : Result (Unit {0}) GroundFault) → OpensGate slot s c d → MakesStep end bytes slot fields s a d
     makes_step s opens = record {
       writes = writes_on fields.chunk end to a c d (writes_ac b c writes (Ok tt) prepared) opens.changes.only;
+      inside = (besides_ad s opens).0;
+      slots = (besides_ad s opens).1;
       held = on_ok_weaker s (λ is. (ap live_of is ∙ prepared.next, both_stand opens.changes.only)) opens.opens;
       kept = opens.kept;
       front = λ left. on_ok_weaker s

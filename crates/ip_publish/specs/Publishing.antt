@@ -11,14 +11,14 @@ use Rattle.ip_ground.specs.declared.names.FileName.{FileName}
 use Rattle.ip_ground.specs.declared.names.FileName.TheVariants.{Control}
 use Rattle.ip_ground.specs.declared.names.GroundFault.{GroundFault}
 use Rattle.ip_ground.specs.Contents.{Image}
-use Rattle.ip_ground.specs.Told.{Told, EachImage, EachSince, Only, ChangesOnly, IsSynced}
+use Rattle.ip_ground.specs.Told.{Told, EachImage, EachSince, ChangesOnly, IsSynced}
 use Rattle.ip_image.specs.declared.slot.Slot.{Slot}
 use Rattle.ip_image.specs.Slot.{slot_bytes}
 use Rattle.ip_image.specs.Pending.{HasLive}
 use Rattle.ip_chunks.specs.Places.{chunk_start, chunk_byte, NoGap, IsChunk, IsChunkBetween, IsChunkFrom}
 use Rattle.ip_chunks.specs.Fronts.{Holds, Leaves, bytes_from}
-use Rattle.ip_control.specs.Live.{Live, live_slot, live_of, IsNewer}
-use Rattle.ip_control.specs.Changes.{control, IsReady}
+use Rattle.ip_control.specs.Live.{Live, live_slot, live_of, IsNewer, SameBesides}
+use Rattle.ip_control.specs.Changes.{control, IsReady, ChangesSlot}
 
 -- from the slot's horizon up to the end
 abbrev pub front_in : Slot → ℕ → Image → List ℕ
@@ -53,6 +53,9 @@ IsOfStore file = (file ≡ Control) ⊎ IsChunk file
 
 pub record MakesStep (end : ℕ) (bytes : List ℕ) (slot : ℕ) (fields : Slot) (result : Result (Unit {0}) GroundFault) (old new : Told) : Type 0 where
   pub writes : WritesTo fields.chunk end (end + length bytes) old new
+  -- of the control file nothing but this slot changes at any moment, by what a crash may leave and by what it reads as
+  pub inside : EachSince old new Control (SameBesides slot (control old))
+  pub slots : SameBesides slot (control old) (control new)
   -- Ok: the records are there, the slot is live, nothing of the control file is pending, and a crash leaves the records where it left those before
   pub held : OnOk result (StandsAs fields.chunk fields.horizon (live_slot slot (slot_bytes fields)) (front_in fields end old.held ++ bytes) new.held)
   pub kept : OnOk result (IsSynced new Control)
@@ -62,9 +65,9 @@ pub record MakesStep (end : ℕ) (bytes : List ℕ) (slot : ℕ) (fields : Slot)
       → EachImage old new (λ said image. StandsAs fields.chunk fields.horizon (live_of (control old)) (front_in fields end old.held) image
       ⊎ StandsAs fields.chunk fields.horizon (live_slot slot (slot_bytes fields)) (front_in fields end old.held ++ bytes) image)
 
--- At every moment the live slot is the one from before or this one. Ok: it is the latter.
+-- Nothing but this slot changes, and at every moment the live one is the one from before or this one. Ok: it is the latter.
 pub record TurnsGate (slot : ℕ) (fields : Slot) (result : Result (Unit {0}) GroundFault) (old new : Told) : Type 0 where
-  pub only : ChangesOnly (Only Control) old new
+  pub changes : ChangesSlot slot old new
   pub live : EachSince old new Control (λ content. (live_of content ≡ live_of (control old)) ⊎ (live_of content ≡ live_slot slot (slot_bytes fields)))
   pub kept : OnOk result (IsSynced new Control)
   pub opens : OnOk result (live_of (control new) ≡ live_slot slot (slot_bytes fields))

@@ -1,13 +1,15 @@
-use Rattle.std.proofs.Common.{◌∙◌, ◌≤◌, pos, refl, sym, ap, subst, Some, None}
+use Rattle.std.proofs.Common.{◌∙◌, ◌≤◌, ℕ, pos, refl, sym, ap, subst, Some, None}
+use Rattle.std.specs.Prelude.{IsErr}
 use Rattle.ip_base.specs.declared.exit.Exit.TheVariants as Exit
 use Rattle.ip_ground.specs.Counts.{Counts}
 use Rattle.ip_held.specs.declared.collection.Collection.{Collection}
 use Rattle.ip_held.specs.declared.held.Held.{Held}
 use Rattle.ip_held.specs.Collecting.{until}
 use Rattle.ip_image.specs.Collection.{found_in}
-use Rattle.ip_check.specs.Checking.{looked_by}
+use Rattle.ip_space.specs.SpaceView.{SpaceView}
+use Rattle.ip_keep.specs.Whole.{AreRecords}
 use Rattle.ip_collects.specs.CollectFaults.{counted_finish}
-use Rattle.ip_collects.specs.Finishing.{IsUndamaged, LooksWithin, looked_at}
+use Rattle.ip_collects.specs.Finishing.{IsUndamaged, LooksOn, LooksWithin}
 use Rattle.ip_collects.specs.Judging.{EndsCheck, FindsNone, FitsExit, IsOpen, IsThrough, SlicesBy, TellsVerdict}
 use Rattle.ip_held.specs.Held.{Holds, IsOf}
 use Rattle.ip_held.proofs.Going.{phase_here}
@@ -32,7 +34,7 @@ returns-clause-check g c y runs =
     let now = c.advance-outcome.new.self in (
       Some now,
       put_check store y c.take_check.new.collection (Some now) (c.take_check.ensures.taken ∙ ap (λ (z : Collection). record z { check = None }) same),
-      subst (λ (z : Collection). looked_at z ≤ looked_by now) same
+      subst (λ (z : Collection). LooksOn c.args.most z (Some now)) same
           (looks_on store r x c.in-Some.is (has_exit store.collection x c.in-Some.is c.requires.running) c.in_ok-check.check c.in_ok-check.ensures.next now slice.check slice.same c.args.most c.advance-outcome.result slice.advances),
     )
 
@@ -43,7 +45,7 @@ returns-in_err-check-clause-check g c y runs =
     let same = same_one store.collection x y c.in-Some.is runs in (
       None,
       ap (λ (z : Collection). record store { collection = Some z }) (c.take_check.ensures.taken ∙ ap (λ (z : Collection). record z { check = None }) same),
-      subst (λ (z : Collection). looked_at z ≤ 0) same (none_looked x None (c.in_err-check.ensures.begins refl)),
+      subst (λ (z : Collection). LooksOn c.args.most z None) same (none_looked c.args.most x (c.in_err-check.ensures.begins refl)),
     )
 
 pub returns-clause-whole : goal.returns-clause-whole
@@ -155,7 +157,7 @@ pub returns-in_err-check-clause-through : goal.returns-in_err-check-clause-throu
 returns-in_err-check-clause-through g c is = subst (λ (y : Collection). FindsNone (Some y)) (sym c.take_check.ensures.taken) tt
 
 pub returns-clause-unsaid : goal.returns-clause-unsaid
-returns-clause-unsaid g c is = unsaid_check c.take_check.new.collection c.advance-outcome.new.self c.advance-outcome.result c.left-left.result c.advance-outcome.ensures.unsaid (sym c.verdict_of.ensures ∙ is)
+returns-clause-unsaid g c is = unsaid_check c.take_check.new.collection c.advance-outcome.new.self c.advance-outcome.result c.left-left.result c.advance-outcome.ensures.unsaid (subst (λ verdict. IsErr verdict) c.verdict_of.ensures is)
 
 pub returns-in_err-check-clause-unsaid : goal.returns-in_err-check-clause-unsaid
 returns-in_err-check-clause-unsaid g c is = subst (λ (y : Collection). ¬ IsThrough (Some y)) (sym c.take_check.ensures.taken) (λ no. no)
@@ -171,5 +173,5 @@ returns-clause-bounded g c told r held y runs valid =
     let over = begins_over store r x c.in-Some.is some c.in_ok-check.check next c.advance-outcome.new.self slice.check slice.same a held in
     let begins = begins_checking store r x c.in-Some.is some c.in_ok-check.check next c.advance-outcome.new.self slice.check slice.same a held in
     subst (λ (z : Collection). LooksWithin c.args.most held.stands.standing.records z) (same_one store.collection x y c.in-Some.is runs)
-    (bounds_looks c.args.most held.stands.standing.records x store.space c.in_ok-check.check c.advance-outcome.new.self (found_in a.held c.in_ok-check.check.job.attempt) next slice.check slice.same
+    (bounds_looks c.args.most a.held held.stands.standing.records x store.space c.in_ok-check.check c.advance-outcome.new.self (found_in a.held c.in_ok-check.check.job.attempt) next slice.check slice.same (subst (λ (s : SpaceView). AreRecords a.held s c.advance-outcome.new.self.keep.horizon (until x.job.end held.stands.standing.records)) (sym slice.same.space) (subst (λ (h : ℕ). AreRecords a.held c.in_ok-check.check.keep.space h (until x.job.end held.stands.standing.records)) (sym slice.same.horizon) over.whole))
     (slice.checking told over.readable over.fixed (until x.job.end held.stands.standing.records) over.whole begins) c.advance-outcome.result c.left-left.result slice.advances (sym c.verdict_of.ensures ∙ valid))

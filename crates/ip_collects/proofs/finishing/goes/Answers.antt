@@ -93,7 +93,7 @@ pub returns-in-Err-clause-goes : goal.returns-in-Err-clause-goes
 returns-in-Err-clause-goes g c =
     let (y, is, may) = some_heard c.args.store.now.collection c.args.child c.in-Ended.reaped c.in-Ended.is c.requires.heard in
     subst (λ (k : Child). Goes k c.args.most (Err FinishFault.Ground) (met_by_finish k (Err FinishFault.Ground) 0) c.args.store.now c.heard.new.store) (sym c.in-Ended.is)
-    (goes_cut c.args.store.now y is c.in-Ended.reaped c.args.most c.heard.new.store (c.heard.ensures.heard y is))
+    (goes_cut c.args.store.now y is c.in-Ended.reaped c.args.most (c.in-Err.ensures.unheard y is) c.requires.tables.0 c.requires.tables.1 c.heard.new.store (c.heard.ensures.heard y is))
 
 pub returns-in-Err-clause-any_moment : goal.returns-in-Err-clause-any_moment
 returns-in-Err-clause-any_moment g c told r held x other runs ended command asked =

@@ -87,7 +87,7 @@ pub returns-in-Err-accept-clause-ends : goal.returns-in-Err-accept-clause-ends
 returns-in-Err-accept-clause-ends g c x runs =
     let k = c.judge.ensures.check x runs in
     ends_refused c.args.store.now x c.args.reaped c.args.most k.0 c.judge.new.store k.1 k.2 c.judge.ensures.tables (subst (λ (v : Verdict). FitsExit c.args.reaped.exit (Ok v)) c.in-Ok-Valid.field-0-is c.in-Ok-Valid.ensures.fits) c.accept.new.store c.requires.tables.0 c.requires.tables.1 c.in-Err-accept.fault c.in-Err-accept.ensures.faults (subst (λ (v : Verdict). EndsCheck (Ok v) c.judge.new.store.collection) c.in-Ok-Valid.field-0-is c.in-Ok-Valid.ensures.ends)
-    (λ e. c.in-Err-accept.ensures.sequence (ap (λ (f : FinishFault). Err f) e)) (λ p there. accepts_checked [] p x k.0 c.in-Err-accept.fault c.judge.new.store c.accept.new.store (c.in-Err-accept.ensures.tables p (record x { check = k.0 }) there (ap (λ (s : Held). s.collection) k.1)))
+    (λ e. c.in-Err-accept.ensures.sequence (ap (λ (f : FinishFault). Err f) e)) (λ e. c.in-Err-accept.ensures.room (ap (λ (f : FinishFault). Err f) e)) (λ p there. accepts_checked [] p x k.0 c.in-Err-accept.fault c.judge.new.store c.accept.new.store (c.in-Err-accept.ensures.tables p (record x { check = k.0 }) there (ap (λ (s : Held). s.collection) k.1)))
 
 pub returns-in-Err-accept-clause-any_moment : goal.returns-in-Err-accept-clause-any_moment
 returns-in-Err-accept-clause-any_moment g c told r held x runs =
@@ -121,7 +121,7 @@ returns-in-Err-accept-clause-counts g c = counts_refused c.in-Err-accept.fault _
 pub returns-in-Err-clause-ends : goal.returns-in-Err-clause-ends
 returns-in-Err-clause-ends g c x runs =
     let k = c.judge.ensures.check x runs in
-    ends_cut c.args.store.now x c.args.reaped c.args.most k.0 c.judge.new.store k.1 k.2 c.judge.ensures.tables c.in-Err.fault c.in-Err.ensures.fits (λ e. c.in-Err.ensures.through (ap (λ (f : FinishFault). Err f) e)) (λ e. c.in-Err.ensures.unsaid (ap (λ (f : FinishFault). Err f) e))
+    ends_cut c.args.store.now x c.args.reaped c.args.most k.0 c.judge.new.store k.1 k.2 c.judge.ensures.tables c.in-Err.fault c.in-Err.ensures.fits (λ e. c.in-Err.ensures.through (ap (λ (f : FinishFault). Err f) e)) (c.in-Err.ensures.unsaid refl)
 
 pub returns-in-Err-clause-any_moment : goal.returns-in-Err-clause-any_moment
 returns-in-Err-clause-any_moment g c told r held x runs =
@@ -145,3 +145,6 @@ returns-in-Err-clause-counts g c = counts_cut c.in-Err.fault _ _ c.in-Err.ensure
 
 pub returns-in-Ok-clause-bounded : goal.returns-in-Ok-clause-bounded
 returns-in-Ok-clause-bounded g c told r held x runs collected = c.judge.ensures.bounded told r held x runs (subst (λ (v : Verdict). c.judge.result ≡ Ok v) c.in-Ok-Valid.field-0-is c.in-Ok-Valid.is)
+
+pub returns-in-Err-accept-clause-bounded : goal.returns-in-Err-accept-clause-bounded
+returns-in-Err-accept-clause-bounded g c told r held x runs accepted = c.judge.ensures.bounded told r held x runs (subst (λ (v : Verdict). c.judge.result ≡ Ok v) c.in-Ok-Valid.field-0-is c.in-Ok-Valid.is)

@@ -4,7 +4,7 @@ use Rattle.ip_collects.specs.Judging.{IsThrough}
 use Rattle.ip_ground.specs.Told.{Told}
 use Rattle.ip_collects.specs.Swapping.{Accepts, AcceptsAs}
 use Rattle.ip_held.specs.declared.held.Held.{Held}
-use Rattle.ip_collects.proofs.Accepting.{runs_through, check_through, refused_so, refused_tables, refused_counts, refused_rootless, refused_sequence, turned_safe, accepts_tables, slot_of_swap, undamaged, accepts_none, pair_syncs, sync_cut, going_on, swap_cut, accepts}
+use Rattle.ip_collects.proofs.Accepting.{runs_through, check_through, refused_so, refused_tables, refused_counts, refused_room, refused_rootless, refused_sequence, turned_safe, accepts_tables, slot_of_swap, undamaged, accepts_none, pair_syncs, sync_cut, going_on, swap_cut, accepts}
 use Rattle.ip_collects.proofs.swapping.accept.Goals as goal
 
 pub returns-in-Err-clause-tables : goal.returns-in-Err-clause-tables
@@ -41,6 +41,21 @@ returns-in-Err-clause-rootless g c at is =
 
 pub returns-in-Err-clause-sequence : goal.returns-in-Err-clause-sequence
 returns-in-Err-clause-sequence g c is = (let t = runs_through c.args.store.now.collection c.requires.through in refused_sequence c.args.store.now t.0 c.in-Err.fault (c.in-Err.ensures.refused t.0 t.1) is)
+
+pub returns-in-Err-clause-room : goal.returns-in-Err-clause-room
+returns-in-Err-clause-room g c is = (let t = runs_through c.args.store.now.collection c.requires.through in refused_room c.args.store.now t.0 c.in-Err.fault (c.in-Err.ensures.refused t.0 t.1) is)
+
+pub returns-in_err-sync_pair-clause-room : goal.returns-in_err-sync_pair-clause-room
+returns-in_err-sync_pair-clause-room g c is =
+    let t = runs_through c.args.store.now.collection c.requires.through in
+    let k = check_through t.0 (subst IsThrough t.1 c.requires.through) in
+    (c.in-Ok.ensures.planned c.requires.tables.0 t.0 k.0 c.requires.tables.1 t.1 k.1).sequence
+
+pub returns-in_err-swap_to-clause-room : goal.returns-in_err-swap_to-clause-room
+returns-in_err-swap_to-clause-room g c is =
+    let t = runs_through c.args.store.now.collection c.requires.through in
+    let k = check_through t.0 (subst IsThrough t.1 c.requires.through) in
+    (c.in-Ok.ensures.planned c.requires.tables.0 t.0 k.0 c.requires.tables.1 t.1 k.1).sequence
 
 pub returns-in_err-sync_pair-clause-does : goal.returns-in_err-sync_pair-clause-does
 returns-in_err-sync_pair-clause-does g c told r held x runs verdict =
