@@ -37,7 +37,7 @@ use Rattle.ip_held.proofs.Renamed.{may_same, named_may, named_step, named_tables
 use Rattle.ip_held.proofs.Room.{err_of}
 use Rattle.ip_held.proofs.Taking.{fault_grew, fault_took, refused_grew, refused_took, still_grew, still_took, value_grew, value_took}
 use Rattle.ip_held.proofs.Untouched.{taken_untouched}
-use Rattle.ip_appends.specs.Naming.{AnswersSet, AppendsRecord, RemovesBranch, Renames, SetsBranch, branch_reply, without_branch}
+use Rattle.ip_appends.specs.Naming.{AnswersSet, AppendsRecord, HasRoomFor, RemovesBranch, Renames, SetsBranch, branch_reply, without_branch}
 use Rattle.ip_appends.proofs.BranchTurns.{absent_same, remove_cut, remove_done, remove_memory, remove_none, set_answers, set_leaving, set_may, set_memory, set_refused}
 
 -- a fault that is no limit of the space
@@ -47,12 +47,13 @@ none_met end fault store space sequence = record { space = λ e. absurd (space (
 -- ---- a record
 
 module _ (tells : Bool) (x : Record) (store : Held) (told : Told) where
-  record_undone : (fault : StoreFault) → ((r : Repository) → IsOf store r → Renames r x (Err fault) store) → LimitsSpace {A = Unit {0}} (store.slot.end + length (spelling x)) (Err fault) store → IsUndamaged {A = Unit {0}} (Err fault) → AppendsRecord tells x (Err fault) store store told told
-  record_undone fault tables limits undamaged = record {
+  record_undone : (fault : StoreFault) → fault ≢ StoreFault.Ground → ((r : Repository) → IsOf store r → Renames r x (Err fault) store) → LimitsSpace {A = Unit {0}} (store.slot.end + length (spelling x)) (Err fault) store → IsUndamaged {A = Unit {0}} (Err fault) → AppendsRecord tells x (Err fault) store store told told
+  record_undone fault ground tables limits undamaged = record {
     tables = λ r of may. tables r of;
     same_collection = refl;
     unswept = refl;
     limits = limits;
+    room = λ e. absurd (ground (cc e));
     appends = λ tells. tt;
     grew = λ tells r held. refused_grew (λ done. true) fault held;
     took = λ tells r held may. refused_took (λ done. true) fault held (renamed r x) ((store.slot.end, x) ∷ []);
@@ -63,12 +64,12 @@ module _ (tells : Bool) (x : Record) (store : Held) (told : Told) where
   }
 
   pub record_memory : AppendsRecord tells x (Err StoreFault.Memory) store store told told
-  record_memory = record_undone StoreFault.Memory (λ r of. of) (none_met (store.slot.end + length (spelling x)) StoreFault.Memory store (λ e. cc e) (λ e. cc e)) tt
+  record_memory = record_undone StoreFault.Memory (λ e. cc e) (λ r of. of) (none_met (store.slot.end + length (spelling x)) StoreFault.Memory store (λ e. cc e) (λ e. cc e)) tt
 
   pub record_limited : (fault : StoreFault) (n : ℕ) → n ≡ length (spelling x) → (r : Repository) → IsOf store r → IsNextSlot (carried store) n 0 (Err fault) → AppendsRecord tells x (Err fault) store store told told
-  record_limited (StoreFault.Limit Limit.Space) n is q known over = record_undone (StoreFault.Limit Limit.Space) (λ r of. of)
+  record_limited (StoreFault.Limit Limit.Space) n is q known over = record_undone (StoreFault.Limit Limit.Space) (λ e. cc e) (λ r of. of)
       (record { space = λ e. subst (λ (k : ℕ). OFFSET_MAX < store.slot.end + k) is over; sequence = λ e. absurd (cc e); enough = tt }) tt
-  record_limited (StoreFault.Limit Limit.Sequence) n is q known (small, last) = record_undone (StoreFault.Limit Limit.Sequence) (λ r of. of)
+  record_limited (StoreFault.Limit Limit.Sequence) n is q known (small, last) = record_undone (StoreFault.Limit Limit.Sequence) (λ e. cc e) (λ r of. of)
       (record { space = λ e. absurd (cc e); sequence = λ e. (subst (λ (k : ℕ). store.slot.end + k ≤ OFFSET_MAX) is small, (let high = known.slot.sequence_high in omega (arith, high, last))); enough = tt }) tt
   record_limited (StoreFault.Limit _) n is q known over = absurd over
   record_limited _ n is q known over = absurd over
@@ -77,6 +78,9 @@ module _ (tells : Bool) (x : Record) (fits : Fits 1 x) (served : IsServedKind x)
     (slot : Slot) (count : ℕ) (counted : count ≡ length bytes) (given : IsNextSlot (carried store) count 0 (Ok slot)) where
   next : IsNextSlot (carried store) (length bytes) 0 (Ok slot)
   next = subst (λ (n : ℕ). IsNextSlot (carried store) n 0 (Ok slot)) counted given
+
+  enough : HasRoomFor x store
+  enough = (subst (λ (bs : Bytes). store.slot.end + length bs ≤ OFFSET_MAX) is next.1, next.2)
 
   abbrev step : Step
   step = record { slot = slot; entry = Entry.Branch x }
@@ -103,7 +107,7 @@ module _ (tells : Bool) (x : Record) (fits : Fits 1 x) (served : IsServedKind x)
     tables_by (Err _) is refused cut r of may = absurd cut
 
     limits_by : (res : Result (Unit {0}) StoreFault) → IfErr res IsCut → LimitsSpace (store.slot.end + length (spelling x)) res store
-    limits_by (Ok u) cut = record { space = λ e. absurd (cc e); sequence = λ e. absurd (cc e); enough = (subst (λ (bs : Bytes). store.slot.end + length bs ≤ OFFSET_MAX) is next.1, next.2) }
+    limits_by (Ok u) cut = record { space = λ e. absurd (cc e); sequence = λ e. absurd (cc e); enough = enough }
     limits_by (Err StoreFault.Memory) cut = none_met (store.slot.end + length (spelling x)) StoreFault.Memory store (λ e. cc e) (λ e. cc e)
     limits_by (Err StoreFault.Ground) cut = none_met (store.slot.end + length (spelling x)) StoreFault.Ground store (λ e. cc e) (λ e. cc e)
     limits_by (Err _) cut = absurd cut
@@ -128,6 +132,7 @@ module _ (tells : Bool) (x : Record) (fits : Fits 1 x) (served : IsServedKind x)
       same_collection = same;
       unswept = unswept;
       limits = limits_by result cut;
+      room = λ ground. enough;
       appends = λ tells. appends_by q known may result taken (λ r held may. took tells r (renamed r x) more held (step_taken r held.tables may held));
       grew = grew;
       took = λ tells r held may. took tells r (renamed r x) more held (step_taken r held.tables may held);
@@ -155,6 +160,7 @@ module _ (tells : Bool) (name : Bytes) (number : ℕ) (store : Held) (told : Tol
     begun = λ r of e. absurd (ground (cc e));
     wanted = λ r of e. wanted (cc e) r of;
     limits = limits;
+    room = λ e. absurd (ground (cc e));
     appends = λ tells. tt;
     grew = λ tells r held. refused_grew (λ done. true) fault held;
     took = λ tells r held retained. refused_took (λ done. true) fault held (with_branch r name number) ((store.slot.end, Record.BranchSet number name) ∷ []);
@@ -202,6 +208,7 @@ module _ (tells : Bool) (name : Bytes) (number : ℕ) (store : Held) (told : Tol
     begun = λ r of ground. (stays, room r of);
     wanted = λ r of memory. (stays, room r of);
     limits = does.limits;
+    room = does.room;
     appends = does.appends;
     grew = does.grew;
     took = λ tells r held retained. does.took tells r held (set_may r name number store held.tables retained (room r held.tables));
@@ -221,6 +228,7 @@ module _ (tells : Bool) (name : Bytes) (store : Held) (told : Told) where
     begun = λ r of e. absurd (cc e);
     wanted = λ r of e. absurd (cc e);
     limits = λ some. absurd (some refl);
+    room = λ e. absurd (cc e);
     appends = λ tells e. absurd (cc e);
     grew = λ tells r held. still_grew (λ removed. removed) false refl held;
     took = λ tells r held. subst (λ (q : Repository). Took (λ removed. removed) held q ((store.slot.end, Record.BranchRemove name) ∷ []) (Ok false) store told) (sym (absent_same r name (none r held.tables)))
@@ -242,6 +250,7 @@ module _ (tells : Bool) (name : Bytes) (store : Held) (told : Told) where
       begun = λ r of e. absurd (cc e);
       wanted = λ r of e. begun_there r of;
       limits = λ some. none_met (store.slot.end + length (spelling (Record.BranchRemove name))) StoreFault.Memory store (λ e. cc e) (λ e. cc e);
+      room = λ e. absurd (cc e);
       appends = λ tells e. absurd (cc e);
       grew = λ tells r held. refused_grew (λ removed. removed) StoreFault.Memory held;
       took = λ tells r held. refused_took (λ removed. removed) StoreFault.Memory held (without_branch r name) ((store.slot.end, Record.BranchRemove name) ∷ []);
@@ -258,6 +267,7 @@ module _ (tells : Bool) (name : Bytes) (store : Held) (told : Told) where
       begun = λ r of e. begun_there r of;
       wanted = λ r of e. begun_there r of;
       limits = λ some. record { space = λ e. does.limits.space (err_of fault (StoreFault.Limit Limit.Space) e); sequence = λ e. does.limits.sequence (err_of fault (StoreFault.Limit Limit.Sequence) e); enough = tt };
+      room = λ e. does.room (err_of fault StoreFault.Ground e);
       appends = λ tells e. absurd (cc e);
       grew = λ tells r held. fault_grew (λ done. true) (λ removed. removed) fault held now (does.grew tells r held);
       took = λ tells r held. fault_took (λ done. true) (λ removed. removed) fault held (without_branch r name) ((store.slot.end, Record.BranchRemove name) ∷ []) now (does.took tells r held tt);
@@ -278,6 +288,7 @@ module _ (tells : Bool) (name : Bytes) (store : Held) (told : Told) where
       begun = λ r of e. begun_there r of;
       wanted = λ r of e. begun_there r of;
       limits = λ some. record { space = λ e. absurd (cc e); sequence = λ e. absurd (cc e); enough = does.limits.enough };
+      room = λ e. absurd (cc e);
       appends = λ tells e. does.appends tells;
       grew = λ tells r held. value_grew (λ removed. removed) true refl held now (does.grew tells r held);
       took = λ tells r held. value_took (λ removed. removed) true refl held (without_branch r name) ((store.slot.end, Record.BranchRemove name) ∷ []) now (does.took tells r held tt);

@@ -56,9 +56,10 @@ module _ (tells : Bool) (branch : Bytes) (info : Info) (store mid : Held) (work 
       → (IsTrue tells → (r : Repository) (v : View) (at : IsAt a store r work v) → IsErrOf {T = Plan} (Err fault) (StoreFault.Limit Limit.Space) → 2 ^ 62 < end_of r work v (first_parent at) branch info store)
       → (IsTrue tells → (r : Repository) (v : View) (at : IsAt a store r work v) → IsErrOf {T = Plan} (Err fault) (StoreFault.Limit Limit.Sequence) → (end_of r work v (first_parent at) branch info store ≤ 2 ^ 62) × (store.slot.sequence ≡ 2 ^ 62))
       → IsStoreCause tells a store.space fault → (IsTrue tells → (r : Repository) (v : View) → IsAt a store r work v → IsUndamaged {A = Plan} (Err fault)) → (work.parents ≡ [] → IsUndamaged {A = Plan} (Err fault))
+      → ((r : Repository) → IsOf store r → ¬ HasAnswer {A = Plan} (Err fault) → first_refusal r (phase_of store.collection) work.least work.parents branch ≡ Ok tt)
       → ((r : Repository) → IsOf store r → IsErrOf {T = Plan} (Err fault) StoreFault.Memory → first_refusal r (phase_of store.collection) work.least work.parents branch ≡ Ok tt)
       → CommitsWork tells branch info (Err fault) store mid work work a b
-  commit_refused fault refused space sequence cause undamaged alone wanted = record {
+  commit_refused fault refused space sequence cause undamaged alone begun wanted = record {
     numbers = same_numbers store mid same;
     tables = λ r of are has. record { repository = r; tables = same_tables store mid same r of; parents = are };
     same_collection = same.collection;
@@ -77,6 +78,7 @@ module _ (tells : Bool) (branch : Bytes) (info : Info) (store mid : Held) (work 
     undamaged = λ told r v at. undamaged_as Plan Hash fault (undamaged told r v at);
     untouched = λ told is other. (looks told).reads.only;
     beside = λ told. beside_looked a b (looks told).reads.only;
+    begun = λ r of none. begun r of (λ has. none (with_answer Hash Plan fault has));
     wanted = λ r of e. wanted r of (err_of fault StoreFault.Memory e);
     clear = λ told has r held. clear_mid told;
     alone = λ none. undamaged_as Plan Hash fault (alone none);
@@ -157,6 +159,7 @@ module _ (tells : Bool) (branch : Bytes) (info : Info) (store mid : Held) (work 
       undamaged = λ told r v at. cut_undamaged (Err fault) cut;
       untouched = λ told is other. only_on a b c NoFile (looks told).reads.only (taken_untouched b c {A = Unit {0}} (Err fault) (λ e. (memory (cc e)).1) cut refl (λ e. other (err_of fault StoreFault.Ground e)));
       beside = λ told. beside_behind a b c (looks told).reads.only (besides told);
+      begun = λ r of none. passed r of;
       wanted = λ r of e. passed r of;
       clear = λ told has. clear_now told (subst HasAnswer (sym is) (with_answer (Unit {0}) Hash fault has));
       alone = λ none. cut_undamaged (Err fault) cut;
@@ -225,6 +228,7 @@ module _ (tells : Bool) (branch : Bytes) (info : Info) (store mid : Held) (work 
         undamaged = λ told r v at. tt;
         untouched = λ told is other. absurd (cc is);
         beside = λ told. beside_behind a b c (looks told).reads.only (besides told);
+        begun = λ r of none. absurd (none tt);
         wanted = λ r of e. absurd (cc (e));
         clear = λ told has. clear_now told (subst HasAnswer (sym is) tt);
         alone = λ none. tt;

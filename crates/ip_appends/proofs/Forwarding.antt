@@ -99,6 +99,7 @@ module _ (branch : Bytes) (number : ℕ) (store : Held) where
     took = λ told r held is. value_took moves (Merge.Forward name) refl held (with_branch r branch number) ((store.slot.end, one) ∷ []) now (did.took told r held (forward_may r held.tables is));
     clear = λ told has. did.clear told tt;
     undamaged = tt;
+    room = λ e. absurd (cc e);
   }
   forward_done tells name (Err fault) now a b named did = record {
     comes = λ r of is. comes r now fault (did.tables r of (forward_may r of is));
@@ -113,6 +114,7 @@ module _ (branch : Bytes) (number : ℕ) (store : Held) where
     took = λ told r held is. fault_took (λ (u : Unit {0}). true) moves fault held (with_branch r branch number) ((store.slot.end, one) ∷ []) now (did.took told r held (forward_may r held.tables is));
     clear = λ told has. did.clear told (with_answer (Unit {0}) Merge fault has);
     undamaged = undamaged fault did.undamaged;
+    room = λ e. did.room (err_of fault StoreFault.Ground e);
   }
 
   pub forward_memory : (tells : Bool) (a : Told) → Forwards tells number branch (Err StoreFault.Memory) store store a a
@@ -129,4 +131,5 @@ module _ (branch : Bytes) (number : ℕ) (store : Held) where
     took = λ told r held is. refused_took moves StoreFault.Memory held (with_branch r branch number) ((store.slot.end, one) ∷ []);
     clear = λ told has r held clear. clear;
     undamaged = tt;
+    room = λ e. absurd (cc e);
   }

@@ -28,11 +28,12 @@ use Rattle.ip_appends.specs.declared.merging.Merge.{Merge}
 use Rattle.ip_appends.specs.declared.merging.Sides.{Sides}
 use Rattle.ip_held.specs.declared.held.Held.{Held}
 use Rattle.ip_held.specs.Causes.{IsStoreCause}
-use Rattle.ip_held.specs.Changes.{Changes, Appends, IsUndamaged, LimitsSpace}
+use Rattle.ip_held.specs.Changes.{Changes, Appends, HasAnswer, IsUndamaged, LimitsSpace}
 use Rattle.ip_held.specs.Clear.{KeepsClear}
 use Rattle.ip_held.specs.Collecting.{phase_of}
 use Rattle.ip_held.specs.Answers.{fault_reply, met_by, met_nothing, met_of}
-use Rattle.ip_appends.specs.Merging.{merge_reply, IsTurn, GoesOnFrom, AnswersMerge, MergeAppends, AppendsMerge, LimitsMerge, IsUnmoved, IsForward, IsForwarded, IsJoin, IsOutcome, IsJoined, Forwards, MergesInto, MergesWhere, StoreLooks, moves}
+use Rattle.ip_appends.specs.Merging.{merge_reply, IsTurn, GoesOnFrom, AnswersMerge, MergeAppends, AppendsMerge, LimitsMerge, IsUnmoved, IsForward, IsForwarded, IsJoin, IsOutcome, IsJoined, Forwards, MergesInto, MergesWhere, NeedsFiles, StoreLooks, moves}
+use Rattle.ip_appends.specs.Naming.{HasRoomFor}
 use Rattle.ip_held.specs.Held.{IsOf, Holds, SameTables, image_records}
 use Rattle.ip_held.specs.Trees.{OnlyLooks}
 use Rattle.ip_appends.proofs.Beside.{beside_looked}
@@ -53,8 +54,9 @@ pub goes_itself : (r : Repository) (store : Held) → IsOf store r → GoesOnFro
 goes_itself r store of = record { tables = of; parents = λ least ns are. are }
 
 module _ (tells : Bool) (rule : Rule) (number : ℕ) (branch : Bytes) (info : Info) (Is : Repository → Type 0) where
-  pub into : (result : Result Merge StoreFault) (store now : Held) (a b : Told) → ((r : Repository) → IsOf store r → IsTrue (is_retained r number) → Is r) → ((r : Repository) → IsOf store r → IsErrOf result StoreFault.Memory → IsSome (head r branch)) → MergesWhere Is tells rule number branch info result store now a b → MergesInto tells rule number branch info result store now a b
-  into result store now a b is wanted all = record {
+  pub into : (result : Result Merge StoreFault) (store now : Held) (a b : Told) → ((r : Repository) → IsOf store r → IsTrue (is_retained r number) → Is r) → ((r : Repository) → IsOf store r → IsTrue (is_retained r number) → ¬ HasAnswer result → NeedsFiles r (phase_of store.collection) number branch)
+      → ((r : Repository) → IsOf store r → IsErrOf result StoreFault.Memory → IsSome (head r branch)) → ((r : Repository) → IsOf store r → IsForward r branch number → IsErrOf result StoreFault.Ground → HasRoomFor (Record.BranchSet number branch) store) → MergesWhere Is tells rule number branch info result store now a b → MergesInto tells rule number branch info result store now a b
+  into result store now a b is begun wanted room all = record {
     tables = λ r of here has. all.tables r of (is r of here) has;
     same_collection = all.same_collection;
     unswept = all.unswept;
@@ -64,7 +66,9 @@ module _ (tells : Bool) (rule : Rule) (number : ℕ) (branch : Bytes) (info : In
     untouched = all.untouched;
     beside = all.beside;
     clear = all.clear;
+    begun = begun;
     wanted = wanted;
+    room = room;
   }
 
   -- ---- where the store only looked

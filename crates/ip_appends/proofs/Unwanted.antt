@@ -1,5 +1,5 @@
--- What refuses a commit before its name is no want of memory.
---     none_given_up, none_moved, none_leaving, none_full      so each of these refusals
+-- What refuses a commit before its name is no want of memory, and no fault of the ground or of its files.
+--     none_given_up, none_moved, none_leaving, none_full      no want of memory is any of these refusals.      refused_answer      a refusal is an answer
 use Rattle.std.proofs.Common.{◌≡◌, ℕ, Bool, true, false, Option, Some, None, subst}
 use Rattle.std.specs.Prelude.{Err, IsErrOf}
 use Rattle.ip_base.specs.declared.limit.Limit.TheVariants as Limit
@@ -9,6 +9,7 @@ use Rattle.ip_spec.specs.Repository.{Repository, name_at}
 use Rattle.ip_spec.specs.Step.{Refused, below, refuse_if, unless_some}
 use Rattle.ip_held.specs.declared.fault.StoreFault.{StoreFault}
 use Rattle.ip_held.specs.Answers.{RefusesBy}
+use Rattle.ip_held.specs.Changes.{HasAnswer}
 use Rattle.ip_held.specs.Collecting.{not_leaving_in}
 use Rattle.ip_appends.specs.declared.committing.Plan.{Plan}
 
@@ -40,3 +41,8 @@ none_leaving phase n fault by = none_by fault (not_leaving_in phase n) (leaves_n
 
 pub none_full : (full : Bool) (fault : StoreFault) → RefusesBy (Err fault) (refuse_if full (Reply.Limit Limit.Branches)) → IsErrOf {T = Plan} (Err fault) StoreFault.Memory → ⊥
 none_full full fault by = none_by fault (refuse_if full (Reply.Limit Limit.Branches)) (full_no full) by
+
+pub refused_answer : (refused : Refused (Unit {0})) (fault : StoreFault) → RefusesBy (Err fault) refused → HasAnswer {A = Plan} (Err fault)
+refused_answer refused StoreFault.Ground by = absurd by
+refused_answer refused (StoreFault.Damaged at names) by = absurd by
+refused_answer refused _ by = tt

@@ -118,7 +118,8 @@ pub record CommitsWork (tells : Bool) (branch : Bytes) (info : Info) (result : R
   pub untouched : IsTrue tells → IsErr result → ¬ IsErrOf result StoreFault.Ground → ChangesOnly NoFile old new
   -- no file but the store's is touched, whatever the files are
   pub beside : IsTrue tells → ChangesOnly IsOfStore old new
-  -- Memory is asked for only where none of the refusals that come before the name is met.
+  -- Files are only touched, and memory is only asked for, where none of the refusals that come before the name is met.
+  pub begun : (r : Repository) → IsOf store r → ¬ HasAnswer result → first_refusal r (phase_of store.collection) work.least work.parents branch ≡ Ok tt
   pub wanted : (r : Repository) → IsOf store r → IsErrOf result StoreFault.Memory → first_refusal r (phase_of store.collection) work.least work.parents branch ≡ Ok tt
   -- whatever the work's tree is
   pub clear : IsTrue tells → HasAnswer result → (r : Repository) → Holds store old r → KeepsClear store now old new

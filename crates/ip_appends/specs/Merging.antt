@@ -13,9 +13,9 @@
 --     MergeAppends rule records r number branch info end more commits      the records that a merge appends where nothing refuses it, and how many commits are among them
 --     AppendsMerge .. result store now old new      where they lie.      LimitsMerge .. result store      which limit is met
 --     IsCourse r phase head number course      how two commits stand to each other, by the tests of ancestors, and whether a collection gives the one up.      unless_leaving, course_in      the course where none does, or not.           IsCourseBy      by their least common ancestors
---     IsForward r branch number, IsJoin r phase branch sides      a branch moves on to a commit, or the trees of three commits are merged
+--     IsForward r branch number, IsJoin r phase branch sides      a branch moves on to a commit, or the trees of three commits are merged.      NeedsFiles r phase number branch      one of the two, by the tables alone
 --     IsForwarded r number result, IsJoined rule records r sides result      what comes of that.      stopped_by fault      of trees that were not merged
-use Rattle.std.specs.Prelude.{◌≡◌, ◌≢◌, ◌⊎◌, ℕ, ◌+◌, ◌<◌, ◌≤◌, true, false, List, [], ◌∷◌, length, Option, Some, None, Result, Ok, Err, OnOk, IfErr, IfSome, IsErr, IsErrOf, IsSome, IsTrue, nat_lt, if◌then◌else◌, Bool}
+use Rattle.std.specs.Prelude.{◌≡◌, ◌≢◌, ◌⊎◌, ℕ, ◌+◌, ◌<◌, ◌≤◌, true, false, List, [], ◌∷◌, length, Option, Some, None, Result, Ok, Err, OnOk, IfErr, IfSome, IsErr, IsErrOf, IsSome, IsSomeAnd, IsTrue, nat_lt, if◌then◌else◌, Bool}
 use Rattle.ip_base.specs.declared.limit.TheConstants.{OFFSET_MAX}
 use Rattle.ip_base.specs.declared.info.Info.{Info}
 use Rattle.ip_base.specs.declared.limit.Limit.TheVariants as Limit
@@ -58,6 +58,7 @@ use Rattle.ip_held.specs.Step.{Grew, Took}
 use Rattle.ip_held.specs.Trees.{IsRootAt, IsTreeOf, OnlyLooks}
 use Rattle.ip_held.specs.Work.{AreParents, state_at}
 use Rattle.ip_held.specs.declared.fault.StoreFault.{StoreFault}
+use Rattle.ip_appends.specs.Naming.{HasRoomFor}
 use Rattle.ip_appends.specs.declared.merging.Course.{Course}
 use Rattle.ip_appends.specs.declared.merging.Joined.{Joined}
 use Rattle.ip_appends.specs.declared.merging.Merge.{Merge}
@@ -204,6 +205,11 @@ pub record IsForward (r : Repository) (branch : Bytes) (number : ℕ) : Type 0 w
   pub not_current : is_ancestor r number at ≡ false
   pub forward : is_proper_ancestor r at number ≡ true
 
+-- The branch is there and lacks the commit, and it moves on, or no collection gives the commit up and there are not several least common ancestors.
+abbrev pub NeedsFiles : Repository → Machine.Phase → ℕ → Bytes → Type 0
+NeedsFiles r phase number branch =
+    IsSomeAnd (head r branch) (λ at. (is_ancestor r number at ≡ false) × ((is_proper_ancestor r at number ≡ true) ⊎ ((not_leaving_in phase (Some number) ≡ Ok tt) × (length (lcas r at number) ≤ 1))))
+
 -- what comes of moving a branch on that is there
 abbrev pub IsForwarded : Repository → ℕ → Result Merge StoreFault → Type 0
 IsForwarded r number (Ok (Merge.Forward name)) = name ≡ name_at r number
@@ -229,6 +235,8 @@ pub record Forwards (tells : Bool) (number : ℕ) (branch : Bytes) (result : Res
   pub beside : IsTrue tells → ChangesOnly IsOfStore old new
   pub clear : IsTrue tells → HasAnswer result → (r : Repository) → Holds store old r → KeepsClear store now old new
   pub undamaged : IsUndamaged result
+  -- no fault of the ground stands in the place of a limit
+  pub room : IsErrOf result StoreFault.Ground → HasRoomFor (Record.BranchSet number branch) store
 
 -- of a repository that the store holds, by a rule that is decisive
 pub record MergesBy (rule : Rule) {store : Held} {old : Told} {r : Repository} (held : Holds store old r) (phase : Machine.Phase) (number : ℕ) (branch : Bytes) (info : Info) (result : Result Merge StoreFault) (now : Held) (new : Told) : Type 0 where
@@ -274,8 +282,11 @@ pub record MergesInto (tells : Bool) (rule : Rule) (number : ℕ) (branch : Byte
   pub beside : IsTrue tells → ChangesOnly IsOfStore old new
   -- whatever the rules are
   pub clear : IsTrue tells → HasAnswer result → (r : Repository) → Holds store old r → KeepsClear store now old new
-  -- Memory is asked for only where there is such a branch.
+  -- Files are only touched where the tables tell of no other end, and memory is only asked for where there is such a branch.
+  pub begun : (r : Repository) → IsOf store r → IsTrue (is_retained r number) → ¬ HasAnswer result → NeedsFiles r (phase_of store.collection) number branch
   pub wanted : (r : Repository) → IsOf store r → IsErrOf result StoreFault.Memory → IsSome (head r branch)
+  -- Of a branch that moves on no fault of the ground stands in the place of a limit.
+  pub room : (r : Repository) → IsOf store r → IsForward r branch number → IsErrOf result StoreFault.Ground → HasRoomFor (Record.BranchSet number branch) store
 
 -- ---- how the commits stand to each other
 

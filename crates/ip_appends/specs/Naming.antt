@@ -1,10 +1,11 @@
 -- What calls on branches answer, and do.
 --     AnswersBranch r phase command met reply store      the reply and the next state are the machine's, for what was met, and the store's tables are the next repository's
 --     branch_reply, removed_reply      the reply; a fault of the ground has none, nor has one of its files
---     Renames r x result store      the tables after a record of a branch.      AppendsRecord tells x result store now old new      what appending it does
+--     HasRoomFor x store      a record meets no limit.      Renames r x result store      the tables after a record of a branch.      AppendsRecord tells x result store now old new      what appending it does
 --     SetsBranch, RemovesBranch tells name .. result store now old new      all that is promised of the call, but for the ground's counts
-use Rattle.std.specs.Prelude.{◌≡◌, ◌≢◌, ℕ, ◌+◌, List, [], ◌∷◌, length, true, false, Bool, Option, Some, IsSome, IfSome, IsTrue, IsErr, IsErrOf, OnOk, Result, Ok, Err}
+use Rattle.std.specs.Prelude.{◌≡◌, ◌≢◌, ℕ, ◌+◌, ◌<◌, ◌≤◌, List, [], ◌∷◌, length, true, false, Bool, Option, Some, IsSome, IfSome, IsTrue, IsErr, IsErrOf, OnOk, Result, Ok, Err}
 use Rattle.ip_ground.specs.Told.{Told, NoFile, ChangesOnly}
+use Rattle.ip_base.specs.declared.limit.TheConstants.{OFFSET_MAX}
 use Rattle.ip_base.specs.declared.limit.Limit.{Limit}
 use Rattle.ip_spec.specs.declared.met.Met.{Met}
 use Rattle.ip_spec.specs.declared.record.Record.{Record}
@@ -57,6 +58,10 @@ AnswersRemove r phase name met store reply = AnswersBranch r phase (Command.Bran
 abbrev pub without_branch : Repository → Bytes → Repository
 without_branch r name = record r { branches = remove r.branches name }
 
+-- neither limit is met by the record
+abbrev pub HasRoomFor : Record → Held → Type 0
+HasRoomFor x store = (store.slot.end + length (spelling x) ≤ OFFSET_MAX) × (store.slot.sequence < OFFSET_MAX)
+
 -- the faults of a call that appends a record of a branch, and the tables after it
 abbrev pub Renames : Repository → Record → Result (Unit {0}) StoreFault → Held → Type 0
 Renames r x (Ok u) store = IsOf store (renamed r x)
@@ -73,6 +78,8 @@ pub record AppendsRecord (tells : Bool) (x : Record) (result : Result (Unit {0})
   -- what is unswept is so still
   pub unswept : now.unswept ≡ store.unswept
   pub limits : LimitsSpace (store.slot.end + length (spelling x)) result store
+  -- no fault of the ground stands in the place of a limit
+  pub room : IsErrOf result StoreFault.Ground → HasRoomFor x store
   pub appends : IsTrue tells → OnOk result (Appends ((store.slot.end, x) ∷ []) 0 store now old new)
   pub grew : IsTrue tells → (r : Repository) (held : Holds store old r) → Grew (λ done. true) held result now new
   pub took : IsTrue tells → (r : Repository) (held : Holds store old r) → MayName r x → Took (λ done. true) held (renamed r x) ((store.slot.end, x) ∷ []) result now new
@@ -93,6 +100,8 @@ pub record SetsBranch (tells : Bool) (name : Bytes) (number : ℕ) (result : Res
   pub begun : (r : Repository) → IsOf store r → IsErrOf result StoreFault.Ground → (not_leaving_in (phase_of store.collection) (Some number) ≡ Ok tt) × (room_for_branch r name ≡ Ok tt)
   pub wanted : (r : Repository) → IsOf store r → IsErrOf result StoreFault.Memory → (not_leaving_in (phase_of store.collection) (Some number) ≡ Ok tt) × (room_for_branch r name ≡ Ok tt)
   pub limits : LimitsSpace (store.slot.end + length (spelling (Record.BranchSet number name))) result store
+  -- no fault of the ground stands in the place of a limit
+  pub room : IsErrOf result StoreFault.Ground → HasRoomFor (Record.BranchSet number name) store
   pub appends : IsTrue tells → OnOk result (Appends ((store.slot.end, Record.BranchSet number name) ∷ []) 0 store now old new)
   pub grew : IsTrue tells → (r : Repository) (held : Holds store old r) → Grew (λ done. true) held result now new
   pub took : IsTrue tells → (r : Repository) (held : Holds store old r) → IsTrue (is_retained r number) → Took (λ done. true) held (with_branch r name number) ((store.slot.end, Record.BranchSet number name) ∷ []) result now new
@@ -111,6 +120,8 @@ pub record RemovesBranch (tells : Bool) (name : Bytes) (result : Result Bool Sto
   pub begun : (r : Repository) → IsOf store r → IsErrOf result StoreFault.Ground → IsSome (head r name)
   pub wanted : (r : Repository) → IsOf store r → IsErrOf result StoreFault.Memory → IsSome (head r name)
   pub limits : result ≢ Ok false → LimitsSpace (store.slot.end + length (spelling (Record.BranchRemove name))) result store
+  -- no fault of the ground stands in the place of a limit
+  pub room : IsErrOf result StoreFault.Ground → HasRoomFor (Record.BranchRemove name) store
   pub appends : IsTrue tells → result ≡ Ok true → Appends ((store.slot.end, Record.BranchRemove name) ∷ []) 0 store now old new
   pub grew : IsTrue tells → (r : Repository) (held : Holds store old r) → Grew (λ removed. removed) held result now new
   pub took : IsTrue tells → (r : Repository) (held : Holds store old r) → Took (λ removed. removed) held (without_branch r name) ((store.slot.end, Record.BranchRemove name) ∷ []) result now new

@@ -17,7 +17,7 @@ ghost use Rattle.ip_tree.specs.TreeView.{IsView};
 ghost use Rattle.ip_held.specs.declared.fault.StoreFault.TheVariants as StoreFault;
 ghost use Rattle.ip_held.specs.Answers.{parent_named, IsRefusal, first_parent, first_refusal, first_view};
 ghost use Rattle.ip_appends.specs.Commits.{CommitsWork, IsNewBatch, IsNext, IsNotMade, IsPlan, end_of};
-ghost use Rattle.ip_held.specs.Changes.{IsUndamaged};
+ghost use Rattle.ip_held.specs.Changes.{HasAnswer, IsUndamaged};
 ghost use Rattle.ip_held.specs.Showing.{IsFetchedOr};
 ghost use Rattle.ip_held.specs.Held.{IsOf, Holds, SameTables, image_records};
 ghost use Rattle.ip_held.specs.Trees.{OnlyLooks};
@@ -118,6 +118,7 @@ fn plan_commit<G: Ground>(
     ensures coming { (r : Repository) → IsOf store.old r → IfOk result (IsNext r work.now.parents branch.now store.old) }
     ensures there { (r : Repository) → IsOf store.old r → IfOk result (λ plan. IsThere r work.now.least) }
     ensures passed { (r : Repository) → IsOf store.old r → IfOk result (λ plan. first_refusal r (phase_of store.old.collection) work.now.least work.now.parents branch.now ≡ Ok tt) }
+    ensures begun { (r : Repository) → IsOf store.old r → ¬ HasAnswer result → first_refusal r (phase_of store.old.collection) work.now.least work.now.parents branch.now ≡ Ok tt }
     ensures wanted { (r : Repository) → IsOf store.old r → IsErrOf result StoreFault.Memory → first_refusal r (phase_of store.old.collection) work.now.least work.now.parents branch.now ≡ Ok tt }
     ensures refused { IsTrue G.tells → (r : Repository) (v : View) → IsAt (G.told outside.old) store.old r work.now v → IfErr result (IsRefusal r (phase_of store.old.collection) work.now v branch.now info) }
     ensures planned { IsTrue G.tells → (r : Repository) (v : View) (here : IsAt (G.told outside.old) store.old r work.now v) → IfOk result (IsPlan r work.now v (first_parent here) branch.now info store.old) }

@@ -33,7 +33,7 @@ returns-in_err-plan-clause-commits g c =
     let is : c.from_residual.result ≡ Err fault = search rules in
     subst (λ (res : Result Hash StoreFault). CommitsWork g.G.Ground.tells c.args.branch.now c.args.info res c.args.store.now c.plan_commit.new.store c.args.work.now c.args.work.now (g.G.Ground.told c.args.outside.now) (g.G.Ground.told c.plan_commit.new.outside)) (sym is)
     (commit_refused g.G.Ground.tells c.args.branch.now c.args.info c.args.store.now c.plan_commit.new.store c.args.work.now (g.G.Ground.told c.args.outside.now) (g.G.Ground.told c.plan_commit.new.outside) c.plan_commit.ensures.same c.plan_commit.ensures.looks
-    fault c.in_err-plan.ensures.refused c.in_err-plan.ensures.space c.in_err-plan.ensures.sequence c.in_err-plan.ensures.causes c.in_err-plan.ensures.undamaged (λ none. (c.in_err-plan.ensures.alone none).1) c.in_err-plan.ensures.wanted)
+    fault c.in_err-plan.ensures.refused c.in_err-plan.ensures.space c.in_err-plan.ensures.sequence c.in_err-plan.ensures.causes c.in_err-plan.ensures.undamaged (λ none. (c.in_err-plan.ensures.alone none).1) c.in_err-plan.ensures.begun c.in_err-plan.ensures.wanted)
 
 pub returns-in_err-take-clause-commits : goal.returns-in_err-take-clause-commits
 returns-in_err-take-clause-commits g c =

@@ -10,8 +10,8 @@ use Rattle.ip_image.specs.Slot.{IsSlot}
 use Rattle.ip_save.specs.Batches.{IsBatch, fields_told}
 use Rattle.ip_save.specs.declared.batch.Batch.{Batch}
 use Rattle.ip_appends.specs.declared.committing.Plan.{Plan}
-use Rattle.ip_held.specs.Changes.{IsNextSlot, IsUndamaged, LimitsSpace}
-use Rattle.ip_held.specs.Collecting.{phase_of, carried}
+use Rattle.ip_held.specs.Changes.{HasAnswer, IsNextSlot, IsUndamaged, LimitsSpace}
+use Rattle.ip_held.specs.Collecting.{phase_of, carried, not_leaving_in}
 use Rattle.ip_held.specs.Answers.{RefusesBy, IsRefusal, first_parent, first_refusal, first_view}
 use Rattle.ip_appends.specs.Commits.{IsNewBatch, end_of}
 use Rattle.ip_held.specs.Held.{image_records}
@@ -20,7 +20,7 @@ use Rattle.ip_held.specs.declared.step.Entry.{Entry}
 use Rattle.ip_appends.proofs.BehindPlan.{looks_nothing, slot_behind, undamaged_as, undamaged_batch, undamaged_slot}
 use Rattle.ip_held.proofs.Causing.{cause_of, undamaged_cause}
 use Rattle.ip_appends.proofs.Planning.{told_from, name_from, refused_batch, batch_limits, slot_limits, coming, passed, planned}
-use Rattle.ip_appends.proofs.Unwanted.{none_full, none_given_up, none_leaving, none_moved}
+use Rattle.ip_appends.proofs.Unwanted.{none_full, none_given_up, none_leaving, none_moved, refused_answer}
 use Rattle.ip_held.proofs.Machine.{if_err_is, Given, Moved, Leaves, by_given, by_moved, by_leaves, by_room, First, first_there, first_room, refused_first, refused_short, refused_memory}
 use Rattle.ip_held.proofs.Phases.{retained_parents}
 use Rattle.ip_appends.proofs.committing.plan_commit.Goals as goal
@@ -411,3 +411,47 @@ returns-in_err-copy_of-clause-wanted g c r of e = passed r (phase_of c.args.stor
 
 pub returns-clause-passed : goal.returns-clause-passed
 returns-clause-passed g c r of = passed r (phase_of c.args.store.now.collection) c.args.work.now.least c.args.work.now.parents c.args.branch.now c.as_slice.result.now c.as_slice.ensures (c.in_ok-there.ensures.refused r of) (c.in_ok-head_among.ensures.refused r of) c.in_ok-staying.ensures.refused (c.in_ok-room_for.ensures.refused r of)
+
+-- ---- and so are files touched
+
+pub returns-in_err-there-clause-begun : goal.returns-in_err-there-clause-begun
+returns-in_err-there-clause-begun g c r of none =
+    let fault = c.in_err-there.field-0.0 in
+    let is : c.from_residual.result ≡ Err fault = search rules in
+    absurd (none (subst HasAnswer (sym is) (refused_answer (unless_some (below r.floor c.args.work.now.least) Reply.GivenUp) fault (c.in_err-there.ensures.refused r of))))
+
+pub returns-in_err-head_among-clause-begun : goal.returns-in_err-head_among-clause-begun
+returns-in_err-head_among-clause-begun g c r of none =
+    let fault = c.in_err-head_among.field-0.0 in
+    let is : c.from_residual-in_err-head_among.result ≡ Err fault = search rules in
+    absurd (none (subst HasAnswer (sym is) (refused_answer (unless_some (moved_head (head r c.args.branch.now) c.as_slice.result.now) (λ n. Reply.HeadMoved (name_at r n))) fault (c.in_err-head_among.ensures.refused r of))))
+
+pub returns-in_err-staying-clause-begun : goal.returns-in_err-staying-clause-begun
+returns-in_err-staying-clause-begun g c r of none =
+    let fault = c.in_err-staying.field-0.0 in
+    let is : c.from_residual-in_err-staying.result ≡ Err fault = search rules in
+    absurd (none (subst HasAnswer (sym is) (refused_answer (not_leaving_in (phase_of c.args.store.now.collection) c.args.work.now.least) fault c.in_err-staying.ensures.refused)))
+
+pub returns-in_err-room_for-clause-begun : goal.returns-in_err-room_for-clause-begun
+returns-in_err-room_for-clause-begun g c r of none =
+    let fault = c.in_err-room_for.field-0.0 in
+    let is : c.from_residual-in_err-room_for.result ≡ Err fault = search rules in
+    absurd (none (subst HasAnswer (sym is) (refused_answer (room_for_branch r c.args.branch.now) fault (c.in_err-room_for.ensures.refused r of))))
+
+pub returns-in_err-fields-clause-begun : goal.returns-in_err-fields-clause-begun
+returns-in_err-fields-clause-begun g c r of none = passed r (phase_of c.args.store.now.collection) c.args.work.now.least c.args.work.now.parents c.args.branch.now c.as_slice.result.now c.as_slice.ensures (c.in_ok-there.ensures.refused r of) (c.in_ok-head_among.ensures.refused r of) c.in_ok-staying.ensures.refused (c.in_ok-room_for.ensures.refused r of)
+
+pub returns-in_err-batch-clause-begun : goal.returns-in_err-batch-clause-begun
+returns-in_err-batch-clause-begun g c r of none = passed r (phase_of c.args.store.now.collection) c.args.work.now.least c.args.work.now.parents c.args.branch.now c.as_slice.result.now c.as_slice.ensures (c.in_ok-there.ensures.refused r of) (c.in_ok-head_among.ensures.refused r of) c.in_ok-staying.ensures.refused (c.in_ok-room_for.ensures.refused r of)
+
+pub returns-in_err-slot-clause-begun : goal.returns-in_err-slot-clause-begun
+returns-in_err-slot-clause-begun g c r of none = passed r (phase_of c.args.store.now.collection) c.args.work.now.least c.args.work.now.parents c.args.branch.now c.as_slice.result.now c.as_slice.ensures (c.in_ok-there.ensures.refused r of) (c.in_ok-head_among.ensures.refused r of) c.in_ok-staying.ensures.refused (c.in_ok-room_for.ensures.refused r of)
+
+pub returns-in_err-parents-clause-begun : goal.returns-in_err-parents-clause-begun
+returns-in_err-parents-clause-begun g c r of none = passed r (phase_of c.args.store.now.collection) c.args.work.now.least c.args.work.now.parents c.args.branch.now c.as_slice.result.now c.as_slice.ensures (c.in_ok-there.ensures.refused r of) (c.in_ok-head_among.ensures.refused r of) c.in_ok-staying.ensures.refused (c.in_ok-room_for.ensures.refused r of)
+
+pub returns-in_err-copy_of-clause-begun : goal.returns-in_err-copy_of-clause-begun
+returns-in_err-copy_of-clause-begun g c r of none = passed r (phase_of c.args.store.now.collection) c.args.work.now.least c.args.work.now.parents c.args.branch.now c.as_slice.result.now c.as_slice.ensures (c.in_ok-there.ensures.refused r of) (c.in_ok-head_among.ensures.refused r of) c.in_ok-staying.ensures.refused (c.in_ok-room_for.ensures.refused r of)
+
+pub returns-clause-begun : goal.returns-clause-begun
+returns-clause-begun g c r of none = absurd (none tt)

@@ -3,7 +3,8 @@ use Rattle.std.specs.Prelude.{Err}
 use Rattle.ip_held.specs.declared.fault.StoreFault.TheVariants as StoreFault
 use Rattle.ip_held.specs.Collecting.{phase_of}
 use Rattle.ip_appends.specs.Merging.{IsForward, IsJoin, MergesInto}
-use Rattle.ip_appends.proofs.MergeCourses.{course_may, forward_at, head_there, into_bases, into_current, into_leaving, into_memory, into_none, join_at}
+use Rattle.ip_appends.specs.declared.merging.Sides.{Sides}
+use Rattle.ip_appends.proofs.MergeCourses.{course_may, forward_apart, forward_at, head_there, into_bases, into_current, into_leaving, into_memory, into_none, join_at, needs_forward, needs_join}
 use Rattle.ip_appends.proofs.MergeExits.{forward_into, into}
 use Rattle.ip_appends.proofs.merging.merge_into.Goals as goal
 
@@ -51,9 +52,12 @@ forward-requires-clause-tables g c =
 pub returns-in-Forward-clause-merges : goal.returns-in-Forward-clause-merges
 returns-in-Forward-clause-merges g c =
     let rule = g.D.Decides.rule c.args.rules.now in
+    let at = forward_at g.G.Ground.tells rule c.args.number c.args.branch.now c.args.info c.args.store.now (g.G.Ground.told c.args.outside.now) c.head.result c.head.ensures c.in-Some.head c.in-Some.is c.in_ok-course_of.field-0 c.in_ok-course_of.ensures c.in-Forward.is in
     into g.G.Ground.tells rule c.args.number c.args.branch.now c.args.info (λ r. IsForward r c.args.branch.now c.args.number) c.forward.result c.args.store.now c.forward.new.store (g.G.Ground.told c.args.outside.now) (g.G.Ground.told c.forward.new.outside)
-    (forward_at g.G.Ground.tells rule c.args.number c.args.branch.now c.args.info c.args.store.now (g.G.Ground.told c.args.outside.now) c.head.result c.head.ensures c.in-Some.head c.in-Some.is c.in_ok-course_of.field-0 c.in_ok-course_of.ensures c.in-Forward.is)
+    at
+    (λ r of here none. needs_forward r (phase_of c.args.store.now.collection) c.args.branch.now c.args.number (at r of here))
     (λ r of e. head_there g.G.Ground.tells rule c.args.number c.args.branch.now c.args.info c.args.store.now (g.G.Ground.told c.args.outside.now) c.head.result c.head.ensures c.in-Some.head c.in-Some.is r of)
+    (λ r of is. c.forward.ensures.forwards.room)
     (forward_into g.G.Ground.tells rule c.args.number c.args.branch.now c.args.info c.forward.result c.args.store.now c.forward.new.store (g.G.Ground.told c.args.outside.now) (g.G.Ground.told c.forward.new.outside) c.forward.ensures.forwards)
 
 -- ---- the trees are merged
@@ -67,7 +71,11 @@ join-requires-clause-tables g c =
 pub returns-in-Join-clause-merges : goal.returns-in-Join-clause-merges
 returns-in-Join-clause-merges g c =
     let rule = g.D.Decides.rule c.args.rules.now in
-    into g.G.Ground.tells rule c.args.number c.args.branch.now c.args.info (λ r. IsJoin r (phase_of c.args.store.now.collection) c.args.branch.now (record { base = c.in-Join.base; head = c.in-Some.head; number = c.args.number })) c.join.result c.args.store.now c.join.new.store (g.G.Ground.told c.args.outside.now) (g.G.Ground.told c.join.new.outside)
-    (join_at g.G.Ground.tells rule c.args.number c.args.branch.now c.args.info c.args.store.now (g.G.Ground.told c.args.outside.now) c.head.result c.head.ensures c.in-Some.head c.in-Some.is c.in_ok-course_of.field-0 c.in_ok-course_of.ensures c.in-Join.base c.in-Join.is)
+    let sides : Sides = record { base = c.in-Join.base; head = c.in-Some.head; number = c.args.number } in
+    let at = join_at g.G.Ground.tells rule c.args.number c.args.branch.now c.args.info c.args.store.now (g.G.Ground.told c.args.outside.now) c.head.result c.head.ensures c.in-Some.head c.in-Some.is c.in_ok-course_of.field-0 c.in_ok-course_of.ensures c.in-Join.base c.in-Join.is in
+    into g.G.Ground.tells rule c.args.number c.args.branch.now c.args.info (λ r. IsJoin r (phase_of c.args.store.now.collection) c.args.branch.now sides) c.join.result c.args.store.now c.join.new.store (g.G.Ground.told c.args.outside.now) (g.G.Ground.told c.join.new.outside)
+    at
+    (λ r of here none. needs_join r (phase_of c.args.store.now.collection) c.args.branch.now sides (at r of here))
     (λ r of e. head_there g.G.Ground.tells rule c.args.number c.args.branch.now c.args.info c.args.store.now (g.G.Ground.told c.args.outside.now) c.head.result c.head.ensures c.in-Some.head c.in-Some.is r of)
+    (λ r of is ground. forward_apart r (phase_of c.args.store.now.collection) c.args.branch.now sides (at r of is.retained) is)
     c.join.ensures.joins
