@@ -1,10 +1,12 @@
 -- What making a store does, exit by exit.
-use Rattle.std.proofs.Common.{take, List, arith, subst, ◌≡◌, ◌<◌, ℕ, false, sym, ◌∙◌, ap, None, Ok, Err}
+use Rattle.std.proofs.Common.{◌≤◌, max, length, get_or, take, List, arith, subst, ◌≡◌, ◌<◌, ℕ, false, sym, ◌∙◌, ap, None, Ok, Err}
 use Rattle.std.specs.Prelude.{Result, IsSome, IsErrAnd, is_some}
 use Rattle.std.proofs.lemmas.Bool.{false≢true}
+use Rattle.std.proofs.lemmas.List.{length-take}
 use Rattle.ip_ground.specs.declared.names.FileName.TheVariants.{Control}
 use Rattle.ip_ground.specs.declared.names.GroundFault.{GroundFault}
-use Rattle.ip_ground.specs.Contents.{bytes_of}
+use Rattle.ip_ground.specs.Contents.{Content, bytes_of, size_of, written}
+use Rattle.ip_ground.specs.Writing.{torn_written, written_behind}
 use Rattle.ip_ground.specs.Custody as custody
 use Rattle.ip_ground.specs.Told.{Told, lending, Only, NoFile, ChangesOnly}
 use Rattle.ip_ground.specs.Calls.{Writes, Syncs}
@@ -39,6 +41,8 @@ is_there chunk a b passes live = record {
   unchanged = λ is. passes;
   made = tt;
   kept = tt;
+  behind = tt;
+  no_longer = tt;
   stands = tt;
   clear = tt;
   nothing_pending = λ none. tt;
@@ -57,6 +61,8 @@ fails chunk (Err e) a b fault only spared = record {
   unchanged = spared;
   made = tt;
   kept = tt;
+  behind = tt;
+  no_longer = tt;
   stands = tt;
   clear = tt;
   nothing_pending = λ none. tt;
@@ -89,6 +95,19 @@ fresh_pending chunk size told is none = record {
         let begun : take 256 has.control ≡ fresh_control chunk = ap (λ c. take 256 (bytes_of c)) (sym has.held) ∙ is in
         one_slot (fresh chunk) s told.held (record { control = has.control; index = 0; held = has.held; live = is_live has.control chunk size begun }) has
 
+-- what at most 256 bytes from the front on leave
+behind_front : (old : Content) (bytes : List ℕ) → length bytes ≤ 256 → (place : ℕ) → 256 ≤ place → get_or (bytes_of (written old 0 bytes)) place 0 ≡ get_or (bytes_of old) place 0
+behind_front old bytes fits place ge = written_behind old 0 bytes (omega arith) place (omega (arith, fits, ge))
+
+no_longer_front : (old : Content) (bytes : List ℕ) → length bytes ≤ 256 → size_of (written old 0 bytes) ≤ max (size_of old) 256
+no_longer_front old bytes fits = omega (arith, fits, (torn_written old 0 bytes (omega arith)).no_longer)
+
+fresh_fits : (chunk : ℕ) → length (fresh_control chunk) ≤ 256
+fresh_fits chunk = first_bytes (bytes_of (written None 0 (fresh_control chunk))) (fresh_control chunk) (fresh_written chunk None)
+  where
+    first_bytes : (whole bytes : List ℕ) → take 256 whole ≡ bytes → length bytes ≤ 256
+    first_bytes whole bytes is = omega (arith, ap length is, length-take 256 whole)
+
 pub makes : (chunk : ℕ) → IsChunkSize chunk → (a b c d : Told) → ChangesOnly NoFile a b → is_some (live_index (control_in b.held)) ≡ false → Writes Control 0 (fresh_control chunk) (Ok tt) b c → Syncs Control (Ok tt) c d → Makes chunk (Ok tt) a d
 makes chunk size a b c d passes closed writes syncs = record {
   only = only;
@@ -97,6 +116,8 @@ makes chunk size a b c d passes closed writes syncs = record {
   unchanged = not_open a b passes closed;
   made = made;
   kept = syncs.ok (λ x. x);
+  behind = λ place ge. ap (λ content. get_or (bytes_of content) place 0) held ∙ behind_front (b.held Control) (fresh_control chunk) (fresh_fits chunk) place ge ∙ ap (λ bytes. get_or bytes place 0) (control_passes a b passes);
+  no_longer = subst (λ bytes. length (control_in d.held) ≤ max (length bytes) 256) (control_passes a b passes) (subst (λ content. size_of content ≤ max (size_of (b.held Control)) 256) (sym held) (no_longer_front (b.held Control) (fresh_control chunk) (fresh_fits chunk)));
   stands = fresh_now chunk size d made (syncs.ok (λ x. x));
   clear = made_clear chunk size d made;
   nothing_pending = λ none. fresh_pending chunk size d made (λ attempt. lending_now a d only.goes attempt (only.lending attempt) ∙ none attempt);
@@ -105,5 +126,8 @@ makes chunk size a b c d passes closed writes syncs = record {
     only : ChangesOnly (Only Control) a d
     only = sync_only chunk a b c d passes writes (Ok tt) syncs
 
+    held : d.held Control ≡ written (b.held Control) 0 (fresh_control chunk)
+    held = (syncs.files Control).held (λ x. x) ∙ writes.ok (λ x. x)
+
     made : IsFresh chunk d.held
-    made = ap (λ l. take 256 (bytes_of l)) ((syncs.files Control).held (λ x. x) ∙ writes.ok (λ x. x)) ∙ fresh_written chunk (b.held Control)
+    made = ap (λ l. take 256 (bytes_of l)) held ∙ fresh_written chunk (b.held Control)

@@ -242,6 +242,7 @@ opens_none fault (Err other) a b is slot = record {
   opening = record {
     since = slot.since;
     begins = slot.begins;
+    kept = slot.left;
     recovers = recovers_from a b slot.since slot.begins slot.only slot.left;
     nothing_pending = synced_order a b slot.only;
   };
@@ -279,6 +280,7 @@ module _ (index : ℕ) (s : Slot) (below : index < 2) (is : IsSlot s) (a b : Tol
     opening_now = record {
       since = slot.since;
       begins = slot.begins;
+      kept = left_now;
       recovers = recovers_from a c slot.since slot.begins only_now left_now;
       nothing_pending = synced_order a c only_now;
     }

@@ -1,7 +1,8 @@
 -- What making a store does, and opening one, between what a ground tells before and after.
-use Rattle.std.specs.Prelude.{◌≡◌, ◌≢◌, ℕ, ◌<◌, ◌≤◌, None, IsSome, Result, OnOk, IfOk, IsErrOf}
+use Rattle.std.specs.Prelude.{◌≡◌, ◌≢◌, ℕ, ◌<◌, ◌≤◌, max, length, slice_index, None, IsSome, Result, OnOk, IfOk, IsErrOf}
 use Rattle.ip_ground.specs.declared.names.FileName.{FileName}
 use Rattle.ip_ground.specs.declared.names.FileName.TheVariants.{Control}
+use Rattle.ip_ground.specs.Contents.{Content}
 use Rattle.ip_ground.specs.Custody.{own}
 use Rattle.ip_ground.specs.Told.{Told, lending, ChangesOnly, SyncsOnly, Only, NoFile, IsSynced, EachImageNow}
 use Rattle.ip_spec.specs.Repository.{Repository, no_repository}
@@ -30,16 +31,20 @@ pub record Makes (chunk : ℕ) (result : Result (Unit {0}) InitFault) (old new :
   -- a crash leaves a store without commits
   pub made : OnOk result (IsFresh chunk new.held)
   pub kept : OnOk result (IsSynced new Control)
+  -- what stood behind the two slots stays, and the file grows up to their end at most
+  pub behind : OnOk result ((place : ℕ) → 256 ≤ place → slice_index (control_in new.held) place ≡ slice_index (control_in old.held) place)
+  pub no_longer : OnOk result (length (control_in new.held) ≤ max (length (control_in old.held)) 256)
   pub stands : OnOk result (EachImageNow new (λ image. StandsFor image no_repository))
   -- nothing was to be cleared yet
   pub clear : OnOk result (IsClearAt new)
   -- and nothing is pending, where no attempt was ever lent
   pub nothing_pending : ((attempt : ℕ) → lending old attempt ≡ own) → OnOk result (NothingPending new)
 
--- From a moment of opening on, that of its sync, whatever a crash leaves stands for the repository that the files stood for, where the ground was in order.
+-- From a moment of opening on, that of its sync, a crash leaves the control file as it is, and whatever it leaves stands for the repository that the files stood for, where the ground was in order.
 pub record RecoversOnceOpen (old new : Told) : Type 0 where
   pub since : ℕ
   pub begins : old.moment < since
+  pub kept : (t : ℕ) → since ≤ t → t ≤ new.moment → (content : Content) → new.may_leave t Control content → content ≡ new.held Control
   pub recovers : (r : Repository) → StandsFor old.held r → NothingPending old → (t : ℕ) → since ≤ t → t ≤ new.moment → RecoversTo (crash_at new t) r
   pub nothing_pending : NothingPending old → NothingPending new
 

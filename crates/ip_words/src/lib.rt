@@ -241,6 +241,7 @@ pub fn one_call()
     ensures allowed { (words : List Bytes) (folder : Bytes) (chunk : ℕ) → Asks words (making folder chunk) → IsChunkSize chunk }
     ensures valid { (words : List Bytes) (folder : Bytes) (job : Job) → Asks words (working folder job) → IsValid job }
     ensures counted { (words : List Bytes) (folder : Bytes) (seed count : ℕ) → Asks words (loading folder seed count) → (1 ≤ count) × (count ≤ LOAD_MAX) }
+    ensures most { LOAD_MAX ≡ 1000000 }
 {}
 
 /// A law, which does nothing when it is called: what the plain forms ask for, where the folder's name has bytes and does not begin with a dash (45),
