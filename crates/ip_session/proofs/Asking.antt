@@ -1,12 +1,13 @@
 -- What a command asks of the spawner, and what is counted meanwhile.
---     goes_itself, goes_same, goes_none      a collection goes on that ran before, or none does
+--     goes_itself, goes_same, goes_none      a collection goes on that ran before, or none does.      few_still      where its child was not heard to have ended no more was looked at
+--     CutsSo s' command result      what is so of one that was cut short.      faulted_bare      so of a call of the store that has no answer
 --     tells_slice, tells_unswept      its reply tells of no check, and of no sweep.      start_unswept      so of a collection that was to begin.      nothing_asked      it asks nothing.      plain_asked      so for a command that has to do with no child.      nothing_spawned      for a line
 --     none_met, faulted      no child was met.      start_asked      a collection was to begin.      start_quiet, start_counts      what was counted of the ground.      start_ends      how the session may end.      start_sound      by no damage
 --     cancel_asked, cancel_counts, cancel_quiet, cancel_sound      so of one that was to end
 --     plain_counts, plain_quiet      so of the others
 --     lined_asked, lined_counts      so of the line that spells a command.      any_counts, none_counts      of any line, and of one that is none
 --     whole_asked, unwritten      a reply's text was written, or there was no memory for it
-use Rattle.std.proofs.Common.{◌≡◌, ◌≢◌, ◌↔◌, ◌⊎◌, inl, inr, ℕ, ◌-◌, ◌^◌, ◌≤◌, ◌++◌, Bool, true, false, List, [], ◌∷◌, refl, sym, ap, ◌∙◌, subst, arith, Option, Some, None, Ok, Err, IsTrue, length, append-nil}
+use Rattle.std.proofs.Common.{◌≡◌, ◌≢◌, ◌↔◌, ◌⊎◌, inl, inr, ℕ, ◌+◌, ◌-◌, ◌^◌, ◌≤◌, ◌++◌, Bool, true, false, List, [], ◌∷◌, refl, sym, ap, ◌∙◌, subst, arith, Option, Some, None, Ok, Err, IsTrue, length, append-nil}
 use Rattle.std.specs.Prelude.{Result, IfOk, OnOk, IfErr, IsErr, IsErrOf, IsSome, IsSomeAnd, is_err, is_some, not}
 use Rattle.ip_base.specs.declared.exit.Reaped.{Reaped}
 use Rattle.ip_ground.specs.Counts.{Noted, Counts, CountsLeft}
@@ -17,7 +18,7 @@ use Rattle.ip_spawn.specs.declared.job.Job.{Job}
 use Rattle.ip_spawn.specs.declared.spawner.SpawnCounts.{SpawnCounts}
 use Rattle.ip_spec.specs.declared.command.Command.{Command}
 use Rattle.ip_spec.specs.declared.command.Target.{Target}
-use Rattle.ip_spec.specs.declared.met.Child.TheVariants as Child
+use Rattle.ip_spec.specs.declared.met.Child.{Child}
 use Rattle.ip_spec.specs.declared.met.Met.{Met}
 use Rattle.ip_spec.specs.declared.reply.Reply.{Reply}
 use Rattle.ip_spec.specs.Machine.{exit_kept}
@@ -35,14 +36,15 @@ use Rattle.ip_collects.specs.declared.starting.CollectFault.{CollectFault}
 use Rattle.ip_collects.specs.Cancelling.{CancelReplies, met_by_cancel, CountsCancel, IsKilled}
 use Rattle.ip_held.specs.Collecting.{phase_of}
 use Rattle.ip_held.specs.Answers as commits
-use Rattle.ip_held.specs.Answers.{met_by}
+use Rattle.ip_held.specs.Answers.{met_by, met_of}
 use Rattle.ip_collects.specs.CollectFaults.{counted_start}
+use Rattle.ip_collects.specs.Finishing.{looked_of}
 use Rattle.ip_collects.specs.Starting.{AnswersCall, branch_name_at, met_by_start, IsBegun, IsTurnedDown, IsJobAt, started_by}
 use Rattle.ip_held.specs.Work.{work_at, state_at}
 use Rattle.ip_session.specs.declared.session.Session.{Session}
 use Rattle.ip_session.specs.declared.session.SessionEnd.{SessionEnd}
-use Rattle.ip_session.specs.Asking.{HasStarted, HandlesNone, TellsNone, MeetsNone, QuietIfLong, GoesOnBy, IsSlicedIn, Asked, Spawns, starts_in}
-use Rattle.ip_session.specs.Session.{met_only, IsLong, CountsBy, CountsAny, CountsIn, EndsBy, MetDamage, counted_end}
+use Rattle.ip_session.specs.Asking.{HasStarted, HandlesNone, AsksNoGround, TellsNone, MeetsNone, IsUnanswered, QuietIfLong, GoesOnBy, IsSlicedIn, Asked, Spawns, looked_in, looks, starts_in}
+use Rattle.ip_session.specs.Session.{met_only, fault_answer, IsAnswer, IsLong, CountsBy, CountsAny, CountsIn, EndsBy, MetDamage, counted_end}
 use Rattle.ip_session.specs.Starting.{HeldReplies, StartReplies, cancel_answer}
 use Rattle.ip_session.proofs.SessionLemmas.{started_is_short, start_fault_is_short, cancelled_is_short, orphan_is_short, idle_is_short}
 use Rattle.ip_store.specs.declared.store.Store.{Store}
@@ -54,17 +56,25 @@ both_some (Some x) P Q R each p q = each x p q
 
 -- ---- a collection goes on
 
-goes_itself : (o : Option Collection) → GoesOnBy [] o o
-goes_itself None = tt
-goes_itself (Some c) = inr (refl, (refl, refl, (λ none. none), omega arith))
+pub goes_itself : (child : Child) (o : Option Collection) → GoesOnBy child [] o o
+goes_itself child None = tt
+goes_itself child (Some c) = inr (refl, (refl, refl, (λ none. none), (omega arith, λ unheard. refl)))
 
-pub goes_same : (result : Result Reply SessionEnd) (before now : Option Collection) → now ≡ before → IfOk result (λ reply. GoesOnBy [] before now)
-goes_same (Ok reply) before now is = subst (GoesOnBy [] before) (sym is) (goes_itself before)
-goes_same (Err end) before now is = tt
+pub goes_same : (child : Child) (result : Result Reply SessionEnd) (before now : Option Collection) → now ≡ before → IfOk result (λ reply. GoesOnBy child [] before now)
+goes_same child (Ok reply) before now is = subst (GoesOnBy child [] before) (sym is) (goes_itself child before)
+goes_same child (Err end) before now is = tt
 
-pub goes_none : (result : Result Reply SessionEnd) (jobs : List Job) (before now : Option Collection) → now ≡ None → IfOk result (λ reply. GoesOnBy jobs before now)
-goes_none (Ok reply) jobs before now is = subst (GoesOnBy jobs before) (sym is) tt
-goes_none (Err end) jobs before now is = tt
+pub goes_none : (child : Child) (result : Result Reply SessionEnd) (jobs : List Job) (before now : Option Collection) → now ≡ None → IfOk result (λ reply. GoesOnBy child jobs before now)
+goes_none child (Ok reply) jobs before now is = subst (GoesOnBy child jobs before) (sym is) tt
+goes_none child (Err end) jobs before now is = tt
+
+-- of a child that was not heard to have ended no record more was looked at
+few_still : (child : Child) (result : Result Reply SessionEnd) (before now : Option Collection) → ((reaped : Reaped) → child ≢ Child.Ended reaped) → IfOk result (λ reply. GoesOnBy child [] before now) → IfOk result (λ reply. looked_in now ≤ looked_in before + looks)
+few_still child (Ok reply) before None unheard goes = omega arith
+few_still child (Ok reply) before (Some c) unheard (inl started) = (let none = ap looked_of started.1 in omega (arith, none))
+few_still child (Ok reply) None (Some c) unheard (inr ran) = absurd ran.1
+few_still child (Ok reply) (Some d) (Some c) unheard (inr ran) = (let same = ran.1.3.1 unheard in omega (arith, same))
+few_still child (Err end) before now unheard goes = tt
 
 -- ---- nothing is asked
 
@@ -78,12 +88,20 @@ none_added x = λ i. record { started = sym (append-nil x.started) i; reaped = s
 pub never_failed : {A : Type 0} (b : Bool) → b ≡ false → IsTrue b → A
 never_failed b is failed = absurd (cc (is, failed))
 
-pub asks_nothing : (s s' : Session) (command : Command) (result : Result Reply SessionEnd) (m : SpawnCounts) → ¬ HasStarted result → result ≢ Ok Reply.Cancelled → MeetsNone s'.met → IfOk result (λ reply. GoesOnBy [] s.store.held.collection s'.store.held.collection) → IfOk result (IsSlicedIn s.store.held.collection s'.store.held.collection) → Asked s s' command result [] [] m m
-asks_nothing s s' command result m never over met goes_on sliced = record {
+-- nothing was met that has an answer, and it asks the ground for something
+abbrev pub CutsSo : Session → Command → Result Reply SessionEnd → Type 0
+CutsSo s' command result = IsErr result → IsUnanswered s'.met × (¬ AsksNoGround command)
+
+never_cut : (s' : Session) (command : Command) (reply : Reply) → CutsSo s' command (Ok reply)
+never_cut s' command reply failed = absurd (cc failed)
+
+pub asks_nothing : (s s' : Session) (command : Command) (result : Result Reply SessionEnd) (m : SpawnCounts) → ¬ HasStarted result → result ≢ Ok Reply.Cancelled → MeetsNone s'.met → IfOk result (λ reply. GoesOnBy s'.met.child [] s.store.held.collection s'.store.held.collection) → IfOk result (IsSlicedIn s.store.held.collection s'.store.held.collection) → CutsSo s' command result → Asked s s' command result [] [] m m
+asks_nothing s s' command result m never over met goes_on sliced cuts = record {
   started = λ has. absurd (never has);
   none_started = λ _. refl;
   goes_on = goes_on;
   sliced = sliced;
+  few = λ _. few_still s'.met.child result s.store.held.collection s'.store.held.collection (λ reaped is. absurd (cc (sym met.2 ∙ is))) goes_on;
   running = λ is. absurd (cc (sym met.2 ∙ is));
   not_running = λ _. refl;
   waits = inl refl;
@@ -98,11 +116,13 @@ asks_nothing s s' command result m never over met goes_on sliced = record {
   kill = λ failed. never_failed s'.met.kill_failed met.1 failed;
   no_fault = λ _ _ _. refl;
   cut = λ _. (met.0, met.1, met.3);
+  unanswered = λ failed. (cuts failed).0;
+  reached = λ failed. (cuts failed).1;
 }
 
-pub nothing_asked : (tells : Bool) (dir : Bytes) (x y : spawn.Told) (s s' : Session) (command : Command) (result : Result Reply SessionEnd) (m n : SpawnCounts) → y ≡ x → n ≡ m → ¬ HasStarted result → result ≢ Ok Reply.Cancelled → MeetsNone s'.met → IfOk result (λ reply. GoesOnBy [] s.store.held.collection s'.store.held.collection) → IfOk result (IsSlicedIn s.store.held.collection s'.store.held.collection) → AskedSo tells dir x y s s' command result m n
-nothing_asked tells dir x y s s' command result m n same still never over met goes_on sliced =
-    ([], [], λ _. same ∙ none_added x, subst (λ (k : SpawnCounts). Asked s s' command result [] [] m k) (sym still) (asks_nothing s s' command result m never over met goes_on sliced))
+pub nothing_asked : (tells : Bool) (dir : Bytes) (x y : spawn.Told) (s s' : Session) (command : Command) (result : Result Reply SessionEnd) (m n : SpawnCounts) → y ≡ x → n ≡ m → ¬ HasStarted result → result ≢ Ok Reply.Cancelled → MeetsNone s'.met → IfOk result (λ reply. GoesOnBy s'.met.child [] s.store.held.collection s'.store.held.collection) → IfOk result (IsSlicedIn s.store.held.collection s'.store.held.collection) → CutsSo s' command result → AskedSo tells dir x y s s' command result m n
+nothing_asked tells dir x y s s' command result m n same still never over met goes_on sliced cuts =
+    ([], [], λ _. same ∙ none_added x, subst (λ (k : SpawnCounts). Asked s s' command result [] [] m k) (sym still) (asks_nothing s s' command result m never over met goes_on sliced cuts))
 
 tells_start : (result : Result Reply SessionEnd) → IfOk result TellsNone → ¬ HasStarted result
 tells_start (Ok (Reply.Started name)) none has = none
@@ -126,8 +146,8 @@ tells_slice (Ok (Reply.Checking left)) before now none = absurd none
 tells_slice (Ok _) before now none = tt
 tells_slice (Err end) before now none = tt
 
-pub plain_asked : (tells : Bool) (dir : Bytes) (x : spawn.Told) (s s' : Session) (command : Command) (result : Result Reply SessionEnd) (m : SpawnCounts) → IfOk result TellsNone → MeetsNone s'.met → s'.store.held.collection ≡ s.store.held.collection → AskedSo tells dir x x s s' command result m m
-plain_asked tells dir x s s' command result m none met same = nothing_asked tells dir x x s s' command result m m refl refl (tells_start result none) (tells_over result none) met (goes_same result s.store.held.collection s'.store.held.collection same) (tells_slice result s.store.held.collection s'.store.held.collection none)
+pub plain_asked : (tells : Bool) (dir : Bytes) (x : spawn.Told) (s s' : Session) (command : Command) (result : Result Reply SessionEnd) (m : SpawnCounts) → IfOk result TellsNone → MeetsNone s'.met → s'.store.held.collection ≡ s.store.held.collection → CutsSo s' command result → AskedSo tells dir x x s s' command result m m
+plain_asked tells dir x s s' command result m none met same cuts = nothing_asked tells dir x x s s' command result m m refl refl (tells_start result none) (tells_over result none) met (goes_same s'.met.child result s.store.held.collection s'.store.held.collection same) (tells_slice result s.store.held.collection s'.store.held.collection none) cuts
 
 pub none_met : (met : Met) (refused : Bool) → met ≡ met_only refused → MeetsNone met
 none_met met refused is = (ap (λ (m : Met). m.start_failed) is, ap (λ (m : Met). m.kill_failed) is, ap (λ (m : Met). m.child) is, ap (λ (m : Met). m.left) is)
@@ -139,6 +159,22 @@ faulted (Err (StoreFault.Limit limit)) = (refl, refl, refl, refl)
 faulted (Err StoreFault.Memory) = (refl, refl, refl, refl)
 faulted (Err _) = (refl, refl, refl, refl)
 
+-- of all faults want of memory and limits alone are met, and they have an answer
+pub faulted_bare : {A : Type 0} (replied : Option Reply) (made : Result A StoreFault) (result : Result Reply SessionEnd) → IsAnswer replied made result → IsErr result → IsUnanswered (met_by made)
+faulted_bare replied made (Ok reply) answer failed = absurd (cc failed)
+faulted_bare replied (Ok x) (Err end) answer failed = (refl, refl, refl)
+faulted_bare replied (Err fault) (Err end) answer failed = by fault answer.1
+  where
+    by : (fault : StoreFault) → fault_answer fault ≡ Err end → IsUnanswered (met_of fault)
+    by (StoreFault.GivenUp number) is = (refl, refl, refl)
+    by (StoreFault.HeadMoved name) is = (refl, refl, refl)
+    by (StoreFault.Leaving number) is = (refl, refl, refl)
+    by (StoreFault.Existing name) is = (refl, refl, refl)
+    by (StoreFault.Limit limit) is = absurd (cc is)
+    by StoreFault.Memory is = absurd (cc is)
+    by StoreFault.Ground is = (refl, refl, refl)
+    by (StoreFault.Damaged at names) is = (refl, refl, refl)
+
 -- ---- a collection is to begin
 
 -- none did
@@ -147,10 +183,10 @@ module _ (tells : Bool) (dir : Bytes) (x y : spawn.Told) (s s' : Session) (targe
   None_of result = AskedSo tells dir x y s s' (Command.Collect target) result m n
 
   unstarted : (result : Result Reply SessionEnd) (reply : Reply) → result ≡ Ok reply → TellsNone reply → MeetsNone s'.met → None_of result
-  unstarted result reply is none met = subst None_of (sym is) (nothing_asked tells dir x y s s' (Command.Collect target) (Ok reply) m n same.0 same.1 (tells_start (Ok reply) none) (tells_over (Ok reply) none) met (goes_same (Ok reply) s.store.held.collection s'.store.held.collection stays) (tells_slice (Ok reply) s.store.held.collection s'.store.held.collection none))
+  unstarted result reply is none met = subst None_of (sym is) (nothing_asked tells dir x y s s' (Command.Collect target) (Ok reply) m n same.0 same.1 (tells_start (Ok reply) none) (tells_over (Ok reply) none) met (goes_same s'.met.child (Ok reply) s.store.held.collection s'.store.held.collection stays) (tells_slice (Ok reply) s.store.held.collection s'.store.held.collection none) (never_cut s' (Command.Collect target) reply))
 
-  unended : (result : Result Reply SessionEnd) (end : SessionEnd) → result ≡ Err end → MeetsNone s'.met → None_of result
-  unended result end is met = subst None_of (sym is) (nothing_asked tells dir x y s s' (Command.Collect target) (Err end) m n same.0 same.1 (λ h. h) (λ e. absurd (cc e)) met tt tt)
+  unended : (result : Result Reply SessionEnd) (end : SessionEnd) → result ≡ Err end → MeetsNone s'.met → IsUnanswered s'.met → None_of result
+  unended result end is met bare = subst None_of (sym is) (nothing_asked tells dir x y s s' (Command.Collect target) (Err end) m n same.0 same.1 (λ h. h) (λ e. absurd (cc e)) met tt tt (λ _. (bare, λ h. h)))
 
 meets : (m m' : Met) → m ≡ m' → MeetsNone m' → MeetsNone m
 meets m m' is none = subst MeetsNone (sym is) none
@@ -174,8 +210,9 @@ module _ (tells : Bool) (dir : Bytes) (x y : spawn.Told) (s : Session) (store : 
         record {
           started = λ _. subst (λ (o : Option Collection). IsSomeAnd o (λ c. (job ∷ [] ≡ c.job ∷ []) × (c.exit ≡ None) × IsJobAt s.store.held c.commit store.held.slot c.job)) (sym runs) (refl, refl, at);
           none_started = λ not. absurd (not (subst HasStarted (sym says.0) tt));
-          goes_on = subst (λ (z : Result Reply SessionEnd). IfOk z (λ reply. GoesOnBy (job ∷ []) s.store.held.collection store.held.collection)) (sym says.0) (subst (GoesOnBy (job ∷ []) s.store.held.collection) (sym runs) (inl refl));
+          goes_on = subst (λ (z : Result Reply SessionEnd). IfOk z (λ reply. GoesOnBy met.child (job ∷ []) s.store.held.collection store.held.collection)) (sym says.0) (subst (GoesOnBy met.child (job ∷ []) s.store.held.collection) (sym runs) (inl (refl, refl)));
           sliced = subst (λ (z : Result Reply SessionEnd). IfOk z (IsSlicedIn s.store.held.collection store.held.collection)) (sym says.0) tt;
+          few = λ is. absurd (cc is);
           running = λ is. absurd (cc (sym none.2 ∙ is));
           not_running = λ _. counts.running;
           waits = inl counts.waits;
@@ -190,6 +227,8 @@ module _ (tells : Bool) (dir : Bytes) (x y : spawn.Told) (s : Session) (store : 
           kill = λ failed. never_failed met.kill_failed none.1 failed;
           no_fault = λ _ _ _. counts.spawn_faults;
           cut = λ _. (none.0, none.1, none.3);
+          unanswered = λ failed. absurd (cc (subst IsErr says.0 failed));
+          reached = λ _ h. h;
         },
       )
   start_asked (Err CollectFault.Start) says is_met still stays asked =
@@ -201,8 +240,9 @@ module _ (tells : Bool) (dir : Bytes) (x y : spawn.Told) (s : Session) (store : 
         record {
           started = λ has. absurd (subst HasStarted says.0 has);
           none_started = λ not. refl;
-          goes_on = goes_same result s.store.held.collection store.held.collection (stays refl);
+          goes_on = goes_same met.child result s.store.held.collection store.held.collection (stays refl);
           sliced = subst (λ (z : Result Reply SessionEnd). IfOk z (IsSlicedIn s.store.held.collection store.held.collection)) (sym says.0) tt;
+          few = λ is. absurd (cc is);
           running = λ is. absurd (cc (sym none ∙ is));
           not_running = λ _. counts.running;
           waits = inl counts.waits;
@@ -217,12 +257,14 @@ module _ (tells : Bool) (dir : Bytes) (x y : spawn.Told) (s : Session) (store : 
           kill = λ failed. never_failed met.kill_failed (ap (λ (k : Met). k.kill_failed) (says.1 ∙ is_met)) failed;
           no_fault = λ _ start _. absurd (cc (sym (ap (λ (k : Met). k.start_failed) (says.1 ∙ is_met)) ∙ start));
           cut = λ failed. absurd (cc (subst IsErr says.0 failed));
+          unanswered = λ failed. absurd (cc (subst IsErr says.0 failed));
+          reached = λ _ h. h;
         },
       )
   start_asked (Err (CollectFault.Busy name)) says is_met still stays asked = unstarted tells dir x y s now target m n (still (inl tt)) (stays refl) result (Reply.Busy name) says.0 tt (meets met commits.met_nothing (says.1 ∙ is_met) (refl, refl, refl, refl))
   start_asked (Err (CollectFault.Limit limit)) says is_met still stays asked = unstarted tells dir x y s now target m n (still (inl tt)) (stays refl) result (Reply.Limit limit) says.0 tt (meets met (met_by_start (Err (CollectFault.Limit limit))) (says.1 ∙ is_met) (refl, refl, refl, refl))
   start_asked (Err CollectFault.Memory) says is_met still stays asked = unstarted tells dir x y s now target m n (still (inl tt)) (stays refl) result Reply.Memory says.0 tt (meets met (met_by_start (Err CollectFault.Memory)) (says.1 ∙ is_met) (refl, refl, refl, refl))
-  start_asked (Err CollectFault.Ground) says is_met still stays asked = unended tells dir x y s now target m n (still (inr refl)) (stays refl) result SessionEnd.Ground says.0 (meets met commits.met_nothing (says.1 ∙ is_met) (refl, refl, refl, refl))
+  start_asked (Err CollectFault.Ground) says is_met still stays asked = unended tells dir x y s now target m n (still (inr refl)) (stays refl) result SessionEnd.Ground says.0 (meets met commits.met_nothing (says.1 ∙ is_met) (refl, refl, refl, refl)) (subst IsUnanswered (sym (says.1 ∙ is_met)) (refl, refl, refl))
   start_asked (Err (CollectFault.Held place)) says is_met still stays asked = both_some (branch_name_at r place) _ _ (AskedSo tells dir x y s now (Command.Collect target) result m n) each says says
     where
       each : (name : Bytes) → (reply : Reply) × (result ≡ Ok reply) × HeldReplies name store.met met reply → (reply : Reply) × (result ≡ Ok reply) × HeldReplies name store.met met reply → AskedSo tells dir x y s now (Command.Collect target) result m n
@@ -415,6 +457,14 @@ module _ (tells : Bool) (dir : Bytes) (x y : spawn.Told) (s : Session) (store : 
       by (Err CancelFault.Idle) is failed = absurd (cc failed)
       by (Err CancelFault.Ground) is failed = (no_start, no_kill (λ orphan. absurd (cc (sym is ∙ orphan))), none_unswept (subst IsErr (sym is) refl))
 
+  bare_by : (done : Result Cancelled CancelFault) → IsUnanswered (met_by_cancel done left)
+  bare_by (Ok Cancelled.Done) = (refl, refl, refl)
+  bare_by (Ok Cancelled.Orphan) = (refl, refl, refl)
+  bare_by (Err fault) = (refl, refl, refl)
+
+  bare : IsUnanswered met
+  bare = subst IsUnanswered (sym is_met) (bare_by done)
+
   never_started : (done : Result Cancelled CancelFault) → ¬ HasStarted (cancel_answer done)
   never_started (Ok Cancelled.Done) has = has
   never_started (Ok Cancelled.Orphan) has = has
@@ -435,7 +485,7 @@ module _ (tells : Bool) (dir : Bytes) (x y : spawn.Told) (s : Session) (store : 
 
   -- none runs
   pub idle_asked : done ≡ Err CancelFault.Idle → y ≡ x → n ≡ m → Over
-  idle_asked is same still = nothing_asked tells dir x y s (record s { store = store; met = met }) Command.Cancel (cancel_answer done) m n same still (never_started done) (λ cancelled. absurd (cc (sym (done_of done cancelled) ∙ is))) (no_start, no_kill (λ orphan. absurd (cc (sym orphan ∙ is))), no_child, none_unswept (subst IsErr (sym is) refl)) (goes_none (cancel_answer done) [] s.store.held.collection store.held.collection over) (never_sliced done s.store.held.collection store.held.collection)
+  idle_asked is same still = nothing_asked tells dir x y s (record s { store = store; met = met }) Command.Cancel (cancel_answer done) m n same still (never_started done) (λ cancelled. absurd (cc (sym (done_of done cancelled) ∙ is))) (no_start, no_kill (λ orphan. absurd (cc (sym orphan ∙ is))), no_child, none_unswept (subst IsErr (sym is) refl)) (goes_none met.child (cancel_answer done) [] s.store.held.collection store.held.collection over) (never_sliced done s.store.held.collection store.held.collection) (λ _. (bare, λ h. h))
 
   -- its child had been reaped
   pub kept_asked : (c : Collection) → s.store.held.collection ≡ Some c → IsSome c.exit → done ≢ Ok Cancelled.Orphan → y ≡ x → n ≡ m → Over
@@ -446,8 +496,9 @@ module _ (tells : Bool) (dir : Bytes) (x y : spawn.Told) (s : Session) (store : 
     record {
       started = λ has. absurd (never_started done has);
       none_started = λ _. refl;
-      goes_on = goes_none (cancel_answer done) [] s.store.held.collection store.held.collection over;
+      goes_on = goes_none met.child (cancel_answer done) [] s.store.held.collection store.held.collection over;
       sliced = never_sliced done s.store.held.collection store.held.collection;
+      few = λ is. absurd (cc is);
       running = λ is. absurd (cc (sym no_child ∙ is));
       not_running = λ _. ap (λ (k : SpawnCounts). k.running) still;
       waits = inl (ap (λ (k : SpawnCounts). k.waits) still);
@@ -462,6 +513,8 @@ module _ (tells : Bool) (dir : Bytes) (x y : spawn.Told) (s : Session) (store : 
       kill = λ failed. never_failed met.kill_failed (no_kill not) failed;
       no_fault = λ _ _ _. ap (λ (k : SpawnCounts). k.spawn_faults) still;
       cut = cut_short;
+      unanswered = λ _. bare;
+      reached = λ _ h. h;
     },
   )
 
@@ -474,8 +527,9 @@ module _ (tells : Bool) (dir : Bytes) (x y : spawn.Told) (s : Session) (store : 
     record {
       started = λ has. absurd (never_started done has);
       none_started = λ _. refl;
-      goes_on = goes_none (cancel_answer done) [] s.store.held.collection store.held.collection over;
+      goes_on = goes_none met.child (cancel_answer done) [] s.store.held.collection store.held.collection over;
       sliced = never_sliced done s.store.held.collection store.held.collection;
+      few = λ is. absurd (cc is);
       running = λ is. absurd (cc (sym no_child ∙ is));
       not_running = λ _. counts.running;
       waits = inl counts.waits;
@@ -490,6 +544,8 @@ module _ (tells : Bool) (dir : Bytes) (x y : spawn.Told) (s : Session) (store : 
       kill = λ failed. never_failed met.kill_failed (no_kill (λ orphan. absurd (cc (killed.orphan.0 orphan)))) failed;
       no_fault = λ _ _ _. counts.spawn_faults;
       cut = cut_short;
+      unanswered = λ _. bare;
+      reached = λ _ h. h;
     },
   )
   killed_asked c (None, killed, told, counts) = (
@@ -499,8 +555,9 @@ module _ (tells : Bool) (dir : Bytes) (x y : spawn.Told) (s : Session) (store : 
     record {
       started = λ has. absurd (never_started done has);
       none_started = λ _. refl;
-      goes_on = goes_none (cancel_answer done) [] s.store.held.collection store.held.collection over;
+      goes_on = goes_none met.child (cancel_answer done) [] s.store.held.collection store.held.collection over;
       sliced = never_sliced done s.store.held.collection store.held.collection;
+      few = λ is. absurd (cc is);
       running = λ is. absurd (cc (sym no_child ∙ is));
       not_running = λ _. counts.running;
       waits = inl counts.waits;
@@ -515,6 +572,8 @@ module _ (tells : Bool) (dir : Bytes) (x y : spawn.Told) (s : Session) (store : 
       kill = λ failed. counts.spawn_faults;
       no_fault = λ _ _ kill. absurd (cc (sym (kill_of (killed.orphan.1 refl)) ∙ kill));
       cut = cut_short;
+      unanswered = λ _. bare;
+      reached = λ _ h. h;
     },
   )
 
@@ -567,6 +626,7 @@ lined_asked tells dir x y s s' met command line result m n served one (jobs, end
       none_started = asked.none_started;
       goes_on = asked.goes_on;
       sliced = asked.sliced;
+      few = asked.few;
       running = asked.running;
       not_running = asked.not_running;
       waits = asked.waits;
@@ -581,6 +641,8 @@ lined_asked tells dir x y s s' met command line result m n served one (jobs, end
       kill = asked.kill;
       no_fault = asked.no_fault;
       cut = asked.cut;
+      unanswered = asked.unanswered;
+      reached = asked.reached;
     });
     none = λ none. absurd (none command served);
     goes_on = asked.goes_on;
@@ -594,9 +656,9 @@ nothing_spawned tells dir x s s' line reply m none met same = record {
   ends = [];
   told = λ _. none_added x;
   asked = record {
-    command = λ command served. asks_nothing s s' command (Ok reply) m (tells_start (Ok reply) none) (tells_over (Ok reply) none) met (goes_same (Ok reply) s.store.held.collection s'.store.held.collection same) (tells_slice (Ok reply) s.store.held.collection s'.store.held.collection none);
+    command = λ command served. asks_nothing s s' command (Ok reply) m (tells_start (Ok reply) none) (tells_over (Ok reply) none) met (goes_same s'.met.child (Ok reply) s.store.held.collection s'.store.held.collection same) (tells_slice (Ok reply) s.store.held.collection s'.store.held.collection none) (never_cut s' command reply);
     none = λ _. (refl, refl, refl);
-    goes_on = goes_same (Ok reply) s.store.held.collection s'.store.held.collection same;
+    goes_on = goes_same s'.met.child (Ok reply) s.store.held.collection s'.store.held.collection same;
     sliced = tells_slice (Ok reply) s.store.held.collection s'.store.held.collection none;
   };
 }
@@ -648,8 +710,9 @@ module _ (tells : Bool) (dir : Bytes) (x y : spawn.Told) (s s' : Session) (met :
         command = λ command served. (let asked = spawns.asked.command command served in record {
           started = λ has. absurd has;
           none_started = λ not. asked.none_started (quiet long).0;
-          goes_on = asked.goes_on;
+          goes_on = subst (λ (k : Child). GoesOnBy k spawns.jobs s.store.held.collection s'.store.held.collection) (quiet long).1.2 asked.goes_on;
           sliced = tt;
+          few = asked.few;
           running = λ is. absurd (cc is);
           not_running = λ _. asked.not_running (λ is. absurd (cc (sym (quiet long).1.2 ∙ is)));
           waits = asked.waits;
@@ -664,9 +727,11 @@ module _ (tells : Bool) (dir : Bytes) (x y : spawn.Told) (s s' : Session) (met :
           kill = λ failed. absurd (cc failed);
           no_fault = λ _ _ _. asked.no_fault (λ is. absurd (cc (sym (quiet long).1.2 ∙ is))) (quiet long).1.0 (quiet long).1.1;
           cut = λ failed. absurd (cc failed);
+          unanswered = λ failed. absurd (cc failed);
+          reached = λ failed. absurd (cc failed);
         });
         none = spawns.asked.none;
-        goes_on = spawns.asked.goes_on;
+        goes_on = subst (λ (k : Child). GoesOnBy k spawns.jobs s.store.held.collection s'.store.held.collection) (quiet long).1.2 spawns.asked.goes_on;
         sliced = tt;
       };
     },

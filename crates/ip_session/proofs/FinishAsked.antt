@@ -4,7 +4,7 @@
 --     finish_counts, finish_quiet      what was counted.      finish_ends      how the session may end.      finish_still      and what has changed where it ends by damage
 --     Knows a b before store command looked r held      what the store says besides where the ground tells what it holds.      finish_ran      all that the session does
 use Rattle.std.proofs.Common.{◌≡◌, ◌≢◌, ◌⊎◌, inl, inr, ℕ, zero, suc, ◌+◌, ◌-◌, ◌^◌, ◌<◌, ◌≤◌, ◌++◌, Bool, true, false, List, [], ◌∷◌, refl, sym, ap, ◌∙◌, subst, arith, Option, Some, None, Ok, Err, IsTrue, append-nil}
-use Rattle.std.specs.Prelude.{◌↔◌, Result, IfOk, IfErr, IfSome, IsErr, IsErrOf, IsSomeAnd, is_some, is_ok, is_err, option_map, count_by}
+use Rattle.std.specs.Prelude.{◌↔◌, Result, IfOk, IfErr, IfSome, IsErr, IsErrOf, IsSomeAnd, is_some, is_ok, is_err, option_map}
 use Rattle.ip_base.specs.declared.exit.Reaped.{Reaped}
 use Rattle.ip_ground.specs.Counts.{Noted, CountsLeft}
 use Rattle.ip_ground.specs.Contents.{Image}
@@ -24,7 +24,6 @@ use Rattle.ip_spec.specs.Path.{Bytes}
 use Rattle.ip_spec.specs.Repository.{Repository}
 use Rattle.ip_spec.specs.Step.{MayHear}
 use Rattle.ip_spec.specs.Step as Machine
-use Rattle.ip_keep.specs.Keeping.{starts_between}
 use Rattle.ip_held.specs.declared.collection.Collection.{Collection}
 use Rattle.ip_collects.specs.declared.finishing.FinishFault.{FinishFault}
 use Rattle.ip_collects.specs.declared.finishing.Looked.{Looked}
@@ -32,17 +31,17 @@ use Rattle.ip_collects.specs.declared.finishing.Rejection.{Rejection}
 use Rattle.ip_held.specs.declared.held.Held.{Held}
 use Rattle.ip_held.specs.Clear.{KeepsClear, ClearsAll}
 use Rattle.ip_held.specs.Collecting.{child_of, phase_of, IsPhaseOf}
-use Rattle.ip_collects.specs.Finishing.{LookReplies, child_seen, child_reaped, CountsFinish, FinishesBy, HasAnswer, IsCollected, IsKept, IsOver, IsQuiet, IsSliced, IsSweptBehind, IsUndamaged, Slices, WorksStay, looked_at}
+use Rattle.ip_collects.specs.Finishing.{LookReplies, child_seen, child_reaped, CountsFinish, FinishesBy, HasAnswer, IsAccepted, IsKept, IsOver, IsQuiet, IsSliced, IsSweptBehind, IsUndamaged, KeepsCollection, LooksWithin, Slices, WorksStay, looked_at, checking_in, refused_in, short_in}
 use Rattle.ip_held.specs.Held.{IsOf, Holds, image_records}
 use Rattle.ip_held.specs.Sweeping.{EndsFor}
 use Rattle.ip_collects.proofs.FinishTurns.{IsEnding}
 use Rattle.ip_session.specs.declared.session.Session.{Session}
 use Rattle.ip_session.specs.declared.session.SessionEnd.{SessionEnd}
-use Rattle.ip_session.specs.Asking.{HasStarted, HeardOf, GoesOnBy, IsBoundedIn, IsSlicedIn, QuietIfLong, looks}
+use Rattle.ip_session.specs.Asking.{HasStarted, HeardOf, AsksNoGround, IsUnanswered, GoesOnBy, IsBoundedIn, IsSlicedIn, QuietIfLong, looked_in, looks}
 use Rattle.ip_session.specs.Running.{IsKnown, Ran}
 use Rattle.ip_session.specs.Session.{unasked, ChangesBy, CountsBy, EndsBy, IsLong, IsServing, MetDamage, StillBy}
 use Rattle.ip_session.specs.Starting.{look_answer}
-use Rattle.ip_session.proofs.Asking.{AskedSo, nothing_asked, goes_same, goes_none, none_added, never_failed, none_left}
+use Rattle.ip_session.proofs.Asking.{AskedSo, CutsSo, nothing_asked, goes_itself, none_added, never_failed, none_left}
 use Rattle.ip_session.proofs.ClearGoes.{finish_clear, Remains, Settles}
 use Rattle.ip_session.proofs.Wanted.{look_wants}
 use Rattle.ip_session.proofs.FinishGoes.{Says, by_end, concluded, may_reap, finish_serves, finish_goes, finish_cuts, finish_placed}
@@ -127,6 +126,25 @@ cut_unswept (Err FinishFault.Memory) failed swept = swept
 cut_unswept (Err FinishFault.Ground) failed swept = swept
 cut_unswept (Err (FinishFault.Damaged at)) failed swept = swept
 
+-- of all that has no answer a fault of the ground and damage alone are left
+cut_bare : (looked : Result Looked FinishFault) → IsErr (look_answer looked) → (refused_in looked ≡ false) × (short_in looked ≡ None) × (checking_in looked ≡ None)
+cut_bare (Ok Looked.Running) failed = absurd (cc failed)
+cut_bare (Ok (Looked.Checking left)) failed = absurd (cc failed)
+cut_bare (Ok (Looked.Collected collected)) failed = absurd (cc failed)
+cut_bare (Err (FinishFault.Rejected (Rejection.Exit exit))) failed = absurd (cc failed)
+cut_bare (Err (FinishFault.Rejected (Rejection.Differs difference))) failed = absurd (cc failed)
+cut_bare (Err FinishFault.Idle) failed = absurd (cc failed)
+cut_bare (Err FinishFault.Wait) failed = absurd (cc failed)
+cut_bare (Err (FinishFault.Limit limit)) failed = absurd (cc failed)
+cut_bare (Err FinishFault.Memory) failed = absurd (cc failed)
+cut_bare (Err FinishFault.Ground) failed = (refl, refl, refl)
+cut_bare (Err (FinishFault.Damaged at)) failed = (refl, refl, refl)
+
+reaches : (command : Command) → IsEnding command → ¬ AsksNoGround command
+reaches Command.Look is none = none
+reaches Command.Finish is none = none
+reaches _ is none = absurd is
+
 ended_alike : (one other : Reaped) → ◌≡◌ {A = Child} (Child.Ended one) (Child.Ended other) → one ≡ other
 ended_alike one other is = cc is
 
@@ -154,31 +172,31 @@ module _ (tells : Bool) (dir : Bytes) (x y : spawn.Told) (s : Session) (store : 
   cut_short : IsErr (look_answer looked) → (met.start_failed ≡ false) × (met.kill_failed ≡ false) × (met.left ≡ 0)
   cut_short failed = (no_start, no_kill, none_left_so (cut_unswept looked failed))
 
+  cuts : CutsSo after_it command (look_answer looked)
+  cuts failed = (subst IsUnanswered (sym (is_met ∙ says.goes.told)) (cut_bare looked failed), reaches command ending)
+
   child_is : met.child ≡ store.met.child
   child_is = ap (λ (k : Met). k.child) is_met
 
-  -- it goes on or is over, or nothing was done
-  goes_on : IfOk (look_answer looked) (λ reply. GoesOnBy [] s.store.held.collection store.held.collection)
-  goes_on = by looked refl
+  -- nothing was done, or it is over, or it goes on
+  each_end : (P : Option Collection → Type 0) → P s.store.held.collection → P None → ((c : Collection) (reaped : Reaped) → s.store.held.collection ≡ Some c → store.met.child ≡ Child.Ended reaped → KeepsCollection says.most c reaped store.held.collection → P store.held.collection)
+      → IfOk (look_answer looked) (λ reply. P store.held.collection)
+  each_end P same over going = by looked refl
     where
-      stays : (x : Result Looked FinishFault) → looked ≡ x → IsQuiet x → IfOk (look_answer x) (λ reply. GoesOnBy [] s.store.held.collection store.held.collection)
-      stays x is quiet = goes_same (look_answer x) s.store.held.collection store.held.collection (ap (λ (k : Held). k.collection) (says.goes.quiet (subst IsQuiet (sym is) quiet)))
+      stays : (x : Result Looked FinishFault) → looked ≡ x → IsQuiet x → P store.held.collection
+      stays x is quiet = subst P (sym (ap (λ (k : Held). k.collection) (says.goes.quiet (subst IsQuiet (sym is) quiet)))) same
 
-      ends : (x : Result Looked FinishFault) → looked ≡ x → IsOver x → IfOk (look_answer x) (λ reply. GoesOnBy [] s.store.held.collection store.held.collection)
-      ends x is over = goes_none (look_answer x) [] s.store.held.collection store.held.collection (says.goes.over (subst IsOver (sym is) over))
+      ends : (x : Result Looked FinishFault) → looked ≡ x → IsOver x → P store.held.collection
+      ends x is ended = subst P (sym (says.goes.over (subst IsOver (sym is) ended))) over
 
-      kept : IsKept looked → (looked ≢ Err FinishFault.Idle) → ¬ IsQuiet looked → GoesOnBy [] s.store.held.collection store.held.collection
+      kept : IsKept looked → (looked ≢ Err FinishFault.Idle) → ¬ IsQuiet looked → P store.held.collection
       kept is not loud = run s.store.held.collection refl
         where
-          some : (c : Collection) (reaped : Reaped) → s.store.held.collection ≡ Some c → store.met.child ≡ Child.Ended reaped → GoesOnBy [] s.store.held.collection store.held.collection
-          some c reaped runs heard = (let K = says.goes.goes_on is c reaped runs heard in
-              subst (λ (o : Option Collection). GoesOnBy [] o store.held.collection) (sym runs) (subst (GoesOnBy [] (Some c)) (sym K.is) (inr (refl, (K.commit, K.job, (λ none. absurd (cc (sym K.exit ∙ none))), K.looked)))))
-
-          run : (o : Option Collection) → s.store.held.collection ≡ o → GoesOnBy [] s.store.held.collection store.held.collection
+          run : (o : Option Collection) → s.store.held.collection ≡ o → P store.held.collection
           run None none = absurd (not (says.goes.runs.0 none))
-          run (Some c) runs = elim says.goes.ended [ inl quiet ↦ absurd (loud quiet) | inr heard ↦ some c heard.0 runs heard.1 ]
+          run (Some c) runs = elim says.goes.ended [ inl quiet ↦ absurd (loud quiet) | inr heard ↦ going c heard.0 runs heard.1 (says.goes.goes_on is c heard.0 runs heard.1) ]
 
-      by : (x : Result Looked FinishFault) → looked ≡ x → IfOk (look_answer x) (λ reply. GoesOnBy [] s.store.held.collection store.held.collection)
+      by : (x : Result Looked FinishFault) → looked ≡ x → IfOk (look_answer x) (λ reply. P store.held.collection)
       by (Ok Looked.Running) is = stays (Ok Looked.Running) is tt
       by (Ok (Looked.Checking left)) is = kept (subst IsKept (sym is) tt) (λ e. absurd (cc (sym is ∙ e))) (λ quiet. subst IsQuiet is quiet)
       by (Ok (Looked.Collected collected)) is = ends (Ok (Looked.Collected collected)) is tt
@@ -190,6 +208,16 @@ module _ (tells : Bool) (dir : Bytes) (x y : spawn.Told) (s : Session) (store : 
       by (Err FinishFault.Memory) is = kept (subst IsKept (sym is) tt) (λ e. absurd (cc (sym is ∙ e))) (λ quiet. subst IsQuiet is quiet)
       by (Err FinishFault.Ground) is = tt
       by (Err (FinishFault.Damaged at)) is = tt
+
+  goes_on : IfOk (look_answer looked) (λ reply. GoesOnBy met.child [] s.store.held.collection store.held.collection)
+  goes_on = each_end (GoesOnBy met.child [] s.store.held.collection) (goes_itself met.child s.store.held.collection) tt (λ c reaped runs heard K.
+      subst (λ (o : Option Collection). GoesOnBy met.child [] o store.held.collection) (sym runs) (subst (GoesOnBy met.child [] (Some c)) (sym K.is)
+      (inr (refl, (K.commit, K.job, (λ none. absurd (cc (sym K.exit ∙ none))), (K.looked.0, λ unheard. absurd (unheard reaped (child_is ∙ heard))))))))
+
+  few : command ≡ Command.Look → IfOk (look_answer looked) (λ reply. looked_in store.held.collection ≤ looked_in s.store.held.collection + looks)
+  few look = each_end (λ (o : Option Collection). looked_in o ≤ looked_in s.store.held.collection + looks) (omega arith) (omega arith) (λ c reaped runs heard K.
+      subst (λ (o : Option Collection). looked_in store.held.collection ≤ looked_in o + looks) (sym runs) (subst (λ (o : Option Collection). looked_in o ≤ looked_at c + looks) (sym K.is)
+      (subst (λ (k : ℕ). looked_at K.same ≤ looked_at c + k) (says.few look) K.looked.1)))
 
   -- a check that is not through
   checking : (left : ℕ) → looked ≡ Ok (Looked.Checking left) → IsSomeAnd s.store.held.collection (λ c. IsSliced looks c left store.held.collection)
@@ -220,7 +248,7 @@ module _ (tells : Bool) (dir : Bytes) (x y : spawn.Told) (s : Session) (store : 
   idle_asked r tables none is same =
       let says_idle = concluded s store met command ending looked is_met says r tables Reply.Idle (ap look_answer is) in
       let heard : MayHear Phase.Idle command store.met.child = subst (λ (o : Option Collection). MayHear (phase_of o) command store.met.child) none (says_idle.turns empty_work).0.child in
-      nothing_asked tells dir x y s after_it command (look_answer looked) m n same.0 same.1 (never_started looked) (never_over looked) (no_start, no_kill, child_is ∙ none_heard command ending store.met.child heard, none_left_so (subst (λ (x : Result Looked FinishFault). ¬ IsSweptBehind x) (sym is) (λ swept. swept))) goes_on sliced
+      nothing_asked tells dir x y s after_it command (look_answer looked) m n same.0 same.1 (never_started looked) (never_over looked) (no_start, no_kill, child_is ∙ none_heard command ending store.met.child heard, none_left_so (subst (λ (x : Result Looked FinishFault). ¬ IsSweptBehind x) (sym is) (λ swept. swept))) goes_on sliced cuts
 
   -- its child had been reaped
   kept_asked : (r : Repository) → IsOf s.store.held r → (c : Collection) (kept : Reaped) → s.store.held.collection ≡ Some c → c.exit ≡ Some kept → (y ≡ x) × (n ≡ m) → Asks
@@ -235,6 +263,7 @@ module _ (tells : Bool) (dir : Bytes) (x y : spawn.Told) (s : Session) (store : 
           none_started = λ _. refl;
           goes_on = goes_on;
           sliced = sliced;
+          few = few;
           running = λ is. absurd (cc (sym is ∙ child));
           not_running = λ _. ap (λ (k : SpawnCounts). k.running) same.1;
           waits = inl (ap (λ (k : SpawnCounts). k.waits) same.1);
@@ -250,6 +279,8 @@ module _ (tells : Bool) (dir : Bytes) (x y : spawn.Told) (s : Session) (store : 
           kill = λ failed. never_failed met.kill_failed no_kill failed;
           no_fault = λ _ _ _. ap (λ (k : SpawnCounts). k.spawn_faults) same.1;
           cut = cut_short;
+          unanswered = λ failed. (cuts failed).0;
+          reached = λ failed. (cuts failed).1;
         },
       )
 
@@ -284,6 +315,7 @@ module _ (tells : Bool) (dir : Bytes) (x y : spawn.Told) (s : Session) (store : 
       none_started = λ _. refl;
       goes_on = goes_on;
       sliced = sliced;
+      few = few;
       running = λ is. (let sees = subst (λ (k : Child). Sees k A.end A.ran A.failed) (sym child_is ∙ is) A.sees in
           A.counts.running ∙ ap (λ (b : Bool). spawned.counted b m.running) sees.1);
       not_running = λ not. A.counts.running ∙ ap (λ (b : Bool). spawned.counted b m.running) (not_ran store.met.child A.end A.ran A.failed A.sees (λ is. not (child_is ∙ is)));
@@ -307,6 +339,8 @@ module _ (tells : Bool) (dir : Bytes) (x y : spawn.Told) (s : Session) (store : 
       kill = λ failed. never_failed met.kill_failed no_kill failed;
       no_fault = λ not _ _. A.counts.spawn_faults ∙ ap (λ (b : Bool). spawned.counted b m.spawn_faults) (not_failed store.met.child A.end A.ran A.failed A.sees (λ is. not (child_is ∙ is)));
       cut = cut_short;
+      unanswered = λ failed. (cuts failed).0;
+      reached = λ failed. (cuts failed).1;
     },
   )
 
@@ -429,7 +463,7 @@ pub record Knows (a b : Told) (before : Held) (store : Store) (command : Command
   pub works_stay : HasAnswer looked → (q : Repository) (now : Holds store.held b q) → WorksStay held now
   pub clear : HasAnswer looked → KeepsClear before store.held a b × ClearsAll (IsSweptBehind looked) store.met.left before store.held a b
   -- a look looks at so many records at most
-  pub bounded : command ≡ Command.Look → (c : Collection) → before.collection ≡ Some c → IsCollected looked → count_by (starts_between c.job.horizon c.job.end) held.stands.standing.records ≤ looked_at c + looks
+  pub bounded : command ≡ Command.Look → (c : Collection) → before.collection ≡ Some c → IsAccepted looked → LooksWithin looks held.stands.standing.records c
 
 module _ (tells : Bool) (a b : Told) (p q : Noted) (spawns : Bool) (held : Option ℕ) (dir : Bytes) (x y : spawn.Told) (m n : SpawnCounts) (s : Session) (store : Store) (met : Met) (command : Command) (ending : IsEnding command) (looked : Result Looked FinishFault) (is_met : met ≡ store.met) (says : Says s store command looked) where
   abbrev Does : Result Reply SessionEnd → Type 0
@@ -447,22 +481,22 @@ module _ (tells : Bool) (a b : Told) (p q : Noted) (spawns : Bool) (held : Optio
   finish_bounded : (r : Repository) (here : Holds s.store.held a r) → Knows a b s.store.held store command looked r here → command ≡ Command.Look → IfOk (look_answer looked) (IsBoundedIn here.stands.standing.records s.store.held.collection)
   finish_bounded r here known look = by looked refl
     where
-      collected : IsCollected looked → IsSomeAnd s.store.held.collection (λ c. count_by (starts_between c.job.horizon c.job.end) here.stands.standing.records ≤ looked_at c + looks)
-      collected is = go s.store.held.collection refl
+      accepted : IsAccepted looked → IsSomeAnd s.store.held.collection (LooksWithin looks here.stands.standing.records)
+      accepted is = go s.store.held.collection refl
         where
-          go : (o : Option Collection) → s.store.held.collection ≡ o → IsSomeAnd o (λ c. count_by (starts_between c.job.horizon c.job.end) here.stands.standing.records ≤ looked_at c + looks)
-          go None none = absurd (subst IsCollected (says.goes.runs.0 none) is)
+          go : (o : Option Collection) → s.store.held.collection ≡ o → IsSomeAnd o (LooksWithin looks here.stands.standing.records)
+          go None none = absurd (subst IsAccepted (says.goes.runs.0 none) is)
           go (Some c) runs = known.bounded look c runs is
 
       by : (x : Result Looked FinishFault) → looked ≡ x → IfOk (look_answer x) (IsBoundedIn here.stands.standing.records s.store.held.collection)
       by (Ok Looked.Running) is = tt
       by (Ok (Looked.Checking left)) is = tt
-      by (Ok (Looked.Collected done)) is = collected (subst IsCollected (sym is) tt)
+      by (Ok (Looked.Collected done)) is = accepted (subst IsAccepted (sym is) tt)
       by (Err FinishFault.Idle) is = tt
       by (Err FinishFault.Wait) is = tt
       by (Err (FinishFault.Rejected (Rejection.Exit exit))) is = tt
       by (Err (FinishFault.Rejected (Rejection.Differs difference))) is = tt
-      by (Err (FinishFault.Limit limit)) is = tt
+      by (Err (FinishFault.Limit limit)) is = accepted (subst IsAccepted (sym is) tt)
       by (Err FinishFault.Memory) is = tt
       by (Err FinishFault.Ground) is = tt
       by (Err (FinishFault.Damaged at)) is = tt

@@ -340,6 +340,7 @@ pub record Says (s : Session) (store : Store) (command : Command) (looked : Resu
   pub answered : (r : Repository) → IsOf s.store.held r → LookReplies looked (Concludes r s.store.held.collection command (conditions_by store.met looked) store.held)
   -- a look alone makes a part of the check
   pub slices : (left : ℕ) → looked ≡ Ok (Looked.Checking left) → most ≡ looks
+  pub few : command ≡ Command.Look → most ≡ looks
 
 module _ (s : Session) (store : Store) (met : Met) (command : Command) (ending : IsEnding command) (looked : Result Looked FinishFault) (is_met : met ≡ store.met) (says : Says s store command looked) where
   abbrev after_it : Session

@@ -3,7 +3,7 @@
 --     runs_ended      a call of the store cut it short.      runs_read      it may read records, and changes no file
 --     ran_plain      it has to do with no child: ran_within asks nothing of the ground, ran_read may read records, ran_durable may change files.      ran_child      it speaks to one
 use Rattle.std.proofs.Common.{◌≡◌, ℕ, Bool, false, refl, sym, ap, ◌∙◌, subst, Option, Ok, Err, IsTrue}
-use Rattle.std.specs.Prelude.{Result, IfOk, IfErr}
+use Rattle.std.specs.Prelude.{Result, IfOk, IfErr, IsErr}
 use Rattle.ip_ground.specs.Counts.{Noted, Counts}
 use Rattle.ip_ground.specs.Told.{Told, NoFile}
 use Rattle.ip_spawn.specs.Children as spawn
@@ -23,11 +23,11 @@ use Rattle.ip_held.specs.Work.{IsLawful}
 use Rattle.ip_held.proofs.Machine.{AsksNone}
 use Rattle.ip_session.specs.declared.session.Session.{Session}
 use Rattle.ip_session.specs.declared.session.SessionEnd.{SessionEnd}
-use Rattle.ip_session.specs.Asking.{HandlesNone, MayReap, MeetsNone, TellsNone}
+use Rattle.ip_session.specs.Asking.{AsksNoGround, HandlesNone, IsUnanswered, MayReap, MeetsNone, TellsNone}
 use Rattle.ip_session.specs.Running.{IsKnown, Runs, Ran}
 use Rattle.ip_session.specs.Session.{unasked, counted_end, EndsBy, IsHeld, IsIn, IsServing, IsWorking, HasRead, IsAnswered, CutBy, is_durable, met_only, attempt_of, hears, MetDamage, StillBy}
 use Rattle.ip_session.specs.Wanting.{Wants}
-use Rattle.ip_session.proofs.Asking.{plain_asked, plain_counts, plain_quiet}
+use Rattle.ip_session.proofs.Asking.{CutsSo, plain_asked, plain_counts, plain_quiet}
 use Rattle.ip_session.proofs.Changing.{nothing_by}
 use Rattle.ip_session.proofs.ClearGoes.{read_clear}
 use Rattle.ip_session.proofs.Placing.{read_placed}
@@ -95,23 +95,23 @@ Known tells rule = IsTrue tells × IsDecisive rule
 module _ {tells : Bool} {rule : Rule} {a b : Told} {p q : Noted} {spawns : Bool} {held : Option ℕ} {dir : Bytes} {x : spawn.Told} {m : SpawnCounts} {s s' : Session} {result : Result Reply SessionEnd} (command command' : Command) (is : command ≡ command') where
   -- it has to do with no child
   pub ran_plain : HandlesNone command' → held ≡ child_of s.store.held.collection → Runs (IsTrue tells) (Known tells rule) rule a b s s' command' result → IfOk result TellsNone → MeetsNone s'.met → s'.store.held.collection ≡ s.store.held.collection → Counts counted_end result p q
-      → Wants s s' command' result → Ran (IsTrue tells) (Known tells rule) rule a b p q spawns held dir x x m m s s' command result
-  ran_plain handles child runs none meets same counts memory = subst (λ (k : Command). Ran (IsTrue tells) (Known tells rule) rule a b p q spawns held dir x x m m s s' k result) (sym is) (record {
+      → Wants s s' command' result → CutsSo s' command' result → Ran (IsTrue tells) (Known tells rule) rule a b p q spawns held dir x x m m s s' command result
+  ran_plain handles child runs none meets same counts memory cuts = subst (λ (k : Command). Ran (IsTrue tells) (Known tells rule) rule a b p q spawns held dir x x m m s s' k result) (sym is) (record {
     runs = runs;
     child = child ∙ sym (ap child_of same);
-    asked = plain_asked spawns dir x s s' command' result m none meets same;
+    asked = plain_asked spawns dir x s s' command' result m none meets same cuts;
     quiet = plain_quiet result s'.met p q none meets counts;
     memory = memory;
     counts = plain_counts command' result s'.met p q handles counts;
   })
 
   pub ran_durable : HandlesNone command' → IsNoMerge command' → held ≡ child_of s.store.held.collection → Runs (IsTrue tells) (IsTrue tells) unasked a b s s' command' result → IfOk result TellsNone → MeetsNone s'.met → s'.store.held.collection ≡ s.store.held.collection → Counts counted_end result p q
-      → Wants s s' command' result → Ran (IsTrue tells) (Known tells rule) rule a b p q spawns held dir x x m m s s' command result
-  ran_durable handles plain child runs none meets same counts memory = ran_plain handles child (by_any_rule tells rule a b s s' command' result plain runs) none meets same counts memory
+      → Wants s s' command' result → CutsSo s' command' result → Ran (IsTrue tells) (Known tells rule) rule a b p q spawns held dir x x m m s s' command result
+  ran_durable handles plain child runs none meets same counts memory cuts = ran_plain handles child (by_any_rule tells rule a b s s' command' result plain runs) none meets same counts memory cuts
 
   pub ran_read : HandlesNone command' → is_durable command' ≡ false → s.met ≡ met_only false → IsServing s → held ≡ child_of s.store.held.collection → HasRead tells a b s s' command' result → IfErr result (EndsBy (IsHeld tells a s)) → IfOk result TellsNone → MeetsNone s'.met
-      → s'.store.held.collection ≡ s.store.held.collection → Counts counted_end result p q → Wants s s' command' result → Ran (IsTrue tells) (Known tells rule) rule a b p q spawns held dir x x m m s s' command result
-  ran_read handles quiet unmet serving child has cause none meets same counts memory = ran_plain handles child (runs_read tells rule a b s s' command' result quiet handles unmet serving has cause) none meets same counts memory
+      → s'.store.held.collection ≡ s.store.held.collection → Counts counted_end result p q → Wants s s' command' result → (IsErr result → ¬ AsksNoGround command') → Ran (IsTrue tells) (Known tells rule) rule a b p q spawns held dir x x m m s s' command result
+  ran_read handles quiet unmet serving child has cause none meets same counts memory reached = ran_plain handles child (runs_read tells rule a b s s' command' result quiet handles unmet serving has cause) none meets same counts memory (λ failed. (subst IsUnanswered (sym (has.unmet failed ∙ unmet)) (refl, refl, refl), reached failed))
 
 -- it speaks to one
 pub ran_child : {tells : Bool} {rule : Rule} {a b : Told} {p q : Noted} {spawns : Bool} {held : Option ℕ} {dir : Bytes} {x y : spawn.Told} {m n : SpawnCounts} {s s' : Session} {result : Result Reply SessionEnd} (command command' : Command) → command ≡ command' → IsNoMerge command'
@@ -132,4 +132,4 @@ pub ran_within : {tells : Bool} {rule : Rule} {a : Told} {p : Noted} {spawns : B
     → ((records : ℕ → Option Record) (r : Repository) (v : View) → IsOf s.store.held r → IsLawful records r s.work v → IsAnswered records s s' r v command' reply) → TellsNone reply → MeetsNone s'.met → Wants s s' command' (Ok reply)
     → Ran (IsTrue tells) (Known tells rule) rule a a p p spawns held dir x x m m s s' command (Ok reply)
 ran_within {tells = tells} {a = a} {s = s} {s' = s'} command command' reply is handles quiet unmet serving child tables same answered none meets memory =
-    ran_read command command' is handles quiet unmet serving child (within_read tells a s s' command' reply tables same answered) tt none meets (ap (λ (k : Held). k.collection) same) refl memory
+    ran_read command command' is handles quiet unmet serving child (within_read tells a s s' command' reply tables same answered) tt none meets (ap (λ (k : Held). k.collection) same) refl memory (λ failed. absurd (cc failed))

@@ -1,11 +1,11 @@
 // The commands that may change files.
-ghost use Rattle.std.specs.Prelude.{◌≡◌, false, IsTrue, IfOk};
+ghost use Rattle.std.specs.Prelude.{◌≡◌, false, IsTrue, IfOk, IsErr};
 ghost use Rattle.ip_ground.specs.Counts.{Counts};
 ghost use Rattle.ip_spec.specs.declared.command.Target.{Target};
 ghost use Rattle.ip_spec.specs.declared.command.Command.TheVariants as Command;
 ghost use Rattle.ip_spec.specs.Record.{IsBranchName, IsInfo};
 ghost use Rattle.ip_merge.specs.Rules.{IsDecisive};
-ghost use Rattle.ip_session.specs.Asking.{MeetsNone, TellsNone};
+ghost use Rattle.ip_session.specs.Asking.{IsUnanswered, MeetsNone, TellsNone};
 ghost use Rattle.ip_session.specs.Running.{Runs};
 ghost use Rattle.ip_session.specs.Session.{counted_end, met_only, unasked};
 
@@ -33,6 +33,7 @@ impl Session {
         ensures runs { Runs (IsTrue G.tells) (IsTrue G.tells) unasked (G.told ground.old) (G.told ground.new) self.old self.new (Command.Commit branch info) result }
         ensures same_collection { self.new.store.held.collection ≡ self.old.store.held.collection }
         ensures meets_none { MeetsNone self.new.met }
+        ensures unanswered { IsErr result → IsUnanswered self.new.met }
         ensures tells_none { IfOk result TellsNone }
         ensures counts { Counts counted_end result (G.counts_of ground.old) (G.counts_of ground.new) }
     {
@@ -57,6 +58,7 @@ impl Session {
         ensures runs { Runs (IsTrue G.tells) (IsTrue G.tells × IsDecisive (D.rule rules.now)) (D.rule rules.now) (G.told ground.old) (G.told ground.new) self.old self.new (Command.Merge target branch info) result }
         ensures same_collection { self.new.store.held.collection ≡ self.old.store.held.collection }
         ensures meets_none { MeetsNone self.new.met }
+        ensures unanswered { IsErr result → IsUnanswered self.new.met }
         ensures tells_none { IfOk result TellsNone }
         ensures counts { Counts counted_end result (G.counts_of ground.old) (G.counts_of ground.new) }
     {
@@ -84,6 +86,7 @@ impl Session {
         ensures runs { Runs (IsTrue G.tells) (IsTrue G.tells) unasked (G.told ground.old) (G.told ground.new) self.old self.new (Command.Branch name target) result }
         ensures same_collection { self.new.store.held.collection ≡ self.old.store.held.collection }
         ensures meets_none { MeetsNone self.new.met }
+        ensures unanswered { IsErr result → IsUnanswered self.new.met }
         ensures tells_none { IfOk result TellsNone }
         ensures counts { Counts counted_end result (G.counts_of ground.old) (G.counts_of ground.new) }
     {
@@ -110,6 +113,7 @@ impl Session {
         ensures runs { Runs (IsTrue G.tells) (IsTrue G.tells) unasked (G.told ground.old) (G.told ground.new) self.old self.new (Command.BranchRm name) result }
         ensures same_collection { self.new.store.held.collection ≡ self.old.store.held.collection }
         ensures meets_none { MeetsNone self.new.met }
+        ensures unanswered { IsErr result → IsUnanswered self.new.met }
         ensures tells_none { IfOk result TellsNone }
         ensures counts { Counts counted_end result (G.counts_of ground.old) (G.counts_of ground.new) }
     {

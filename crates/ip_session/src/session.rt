@@ -1,5 +1,5 @@
 // A session: one line, one reply.
-ghost use Rattle.std.specs.Prelude.{◌≡◌, ◌<◌, ◌≤◌, [], false, ℕ, length, Option, IsTrue, IfOk, IfErr, OnOk, OnErr, None, Ok};
+ghost use Rattle.std.specs.Prelude.{◌≡◌, ◌<◌, ◌≤◌, [], false, ℕ, length, Option, IsTrue, IfOk, IfErr, OnOk, OnErr, IsOk, None, Ok};
 ghost use Rattle.ip_base.specs.declared.limit.TheConstants.{PARENTS_MAX};
 ghost use Rattle.std.specs.Vec.{vec_capacity};
 ghost use Rattle.ip_ground.specs.Counts.{CountsIf};
@@ -21,7 +21,7 @@ ghost use Rattle.ip_held.specs.Held.{IsOf, image_records};
 ghost use Rattle.ip_held.specs.Work.{IsLawful, IsThere};
 ghost use Rattle.ip_merge.specs.Rules.{IsDecisive};
 ghost use Rattle.ip_session.specs.Clearing.{ClearIn};
-ghost use Rattle.ip_session.specs.Asking.{IsBoundedIn, QuietIfLong, MeetsNone, Spawns, TellsNone};
+ghost use Rattle.ip_session.specs.Asking.{AsksNoGround, IsBoundedIn, QuietIfLong, MeetsNone, Spawns, TellsNone};
 ghost use Rattle.ip_session.specs.Placing.{PlacedIn};
 ghost use Rattle.ip_session.specs.Running.{Ran};
 ghost use Rattle.ip_session.specs.Wanting.{Wants, WantsIn};
@@ -260,8 +260,9 @@ impl Session {
         requires met { self.old.met ≡ met_only false }
         requires tables { IsServing self.old }
         requires child { P.held spawner.old ≡ child_of self.old.store.held.collection }
-        ensures { Ran (IsTrue G.tells) (IsTrue G.tells × IsDecisive (D.rule rules.now)) (D.rule rules.now) (G.told ground.old) (G.told ground.new) (G.counts_of ground.old) (G.counts_of ground.new) P.tells (P.held spawner.new) dir.now (P.told spawner.old) (P.told spawner.new)
+        ensures ran { Ran (IsTrue G.tells) (IsTrue G.tells × IsDecisive (D.rule rules.now)) (D.rule rules.now) (G.told ground.old) (G.told ground.new) (G.counts_of ground.old) (G.counts_of ground.new) P.tells (P.held spawner.new) dir.now (P.told spawner.old) (P.told spawner.new)
             (P.counts_of spawner.old) (P.counts_of spawner.new) self.old self.new command result }
+        ensures still { AsksNoGround command → (ground.new ≡ ground.old) × IsOk result }
     {
         match command {
             // It asks nothing of the ground.
@@ -334,6 +335,8 @@ impl Session {
         ensures cause { IsDecisive (D.rule rules.now) → IfErr result (EndsBy (IsHeld G.tells (G.told ground.old) self.old)) }
         // Behind damage no file has changed: at most a child that was heard of is settled.
         ensures untouched { IsTrue G.tells → MetDamage result → StillIn self.old.store.held (G.told ground.old) (G.told ground.new) line.now }
+        // A line that asks nothing of the ground leaves it as it is, and is answered; one that is no command is such a line.
+        ensures still { ((command : Command) → IsLineOf command line.now → AsksNoGround command) → (ground.new ≡ ground.old) × IsOk result }
     {
         self.met = met_only(false);
         match read_line(self.alloc, line) {
@@ -377,6 +380,8 @@ impl Session {
         ensures cause { IsDecisive (D.rule rules.now) → IfErr result (EndsBy (IsHeld G.tells (G.told ground.old) self.old)) }
         // Behind damage no file has changed: at most a child that was heard of is settled.
         ensures untouched { IsTrue G.tells → MetDamage result → StillIn self.old.store.held (G.told ground.old) (G.told ground.new) line.now }
+        // A line that asks nothing of the ground leaves it as it is, and is answered; one that is no command is such a line.
+        ensures still { ((command : Command) → IsLineOf command line.now → AsksNoGround command) → (ground.new ≡ ground.old) × IsOk result }
     {
         match self.step(dir, ground, spawner, line, rules) {
             Err(end) => Err(end),

@@ -46,7 +46,7 @@ returns-in-Collecting g c =
         untouched = λ told met. absurd met;
       };
       child = c.requires.child;
-      asked = plain_asked _ _ _ s s (Command.Collect c.args.target) (Ok busy) _ tt unmet refl;
+      asked = plain_asked _ _ _ s s (Command.Collect c.args.target) (Ok busy) _ tt unmet refl (λ failed. absurd (cc failed));
       quiet = plain_quiet (Ok busy) s.met _ _ tt unmet refl;
       memory = λ r is e. absurd (cc e);
       counts = refl;
@@ -70,7 +70,7 @@ returns-in-Err g c =
         untouched = λ told met. absurd met;
       };
       child = c.requires.child;
-      asked = plain_asked _ _ _ s s (Command.Collect c.args.target) (Ok c.in-Err.reply) _ c.in-Err.ensures.tells_none unmet refl;
+      asked = plain_asked _ _ _ s s (Command.Collect c.args.target) (Ok c.in-Err.reply) _ c.in-Err.ensures.tells_none unmet refl (λ failed. absurd (cc failed));
       quiet = plain_quiet (Ok c.in-Err.reply) s.met _ _ c.in-Err.ensures.tells_none unmet refl;
       memory = λ r is e. absurd (unnamed_memory r c.args.target c.in-Err.reply (c.in-Err.ensures.number r is.0) e);
       counts = refl;

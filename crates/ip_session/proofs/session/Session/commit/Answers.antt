@@ -10,10 +10,10 @@ use Rattle.ip_held.specs.Answers.{reply_to, Answers}
 use Rattle.ip_held.specs.Collecting.{phase_of}
 use Rattle.ip_held.specs.Work.{IsAt, session}
 use Rattle.ip_held.proofs.Untouched.{damage_refused}
-use Rattle.ip_session.specs.Asking.{MeetsNone}
+use Rattle.ip_session.specs.Asking.{IsUnanswered, MeetsNone}
 use Rattle.ip_session.specs.Running.{IsKnown, Runs}
 use Rattle.ip_session.specs.Session.{unasked}
-use Rattle.ip_session.proofs.Asking.{faulted}
+use Rattle.ip_session.proofs.Asking.{faulted, faulted_bare}
 use Rattle.ip_session.proofs.ClearGoes.{keeps_by}
 use Rattle.ip_session.proofs.Committing.{commit_goes, commit_cut, has_answer}
 use Rattle.ip_session.proofs.Damage.{causes_apart}
@@ -56,3 +56,6 @@ returns-clause-counts g c = answer_counts (reply_to c.commit-made.result) c.comm
 
 pub returns-clause-meets_none : goal.returns-clause-meets_none
 returns-clause-meets_none g c = subst MeetsNone (sym (c.met-self.ensures ∙ c.commit-made.ensures.met)) (faulted c.commit-made.result)
+
+pub returns-clause-unanswered : goal.returns-clause-unanswered
+returns-clause-unanswered g c failed = subst IsUnanswered (sym (c.met-self.ensures ∙ c.commit-made.ensures.met)) (faulted_bare (reply_to c.commit-made.result) c.commit-made.result c.commit_answer.result c.commit_answer.ensures.answer failed)

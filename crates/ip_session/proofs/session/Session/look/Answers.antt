@@ -16,7 +16,7 @@ returns g c dir =
     let C = call.ensures.concludes in
     let met = c.met-self.result in
     let (r, is) = c.requires.tables in
-    let says : Says s store Command.Look looked = record { most = _; goes = C.goes; kept = λ x reaped runs exit. (call.ensures.kept x reaped runs exit).1; answered = C.answered; slices = λ left is. refl } in
+    let says : Says s store Command.Look looked = record { most = _; goes = C.goes; kept = λ x reaped runs exit. (call.ensures.kept x reaped runs exit).1; answered = C.answered; slices = λ left is. refl; few = λ _. refl } in
     finish_ran g.G.Ground.tells _ _ _ _ g.P.Spawner.tells _ dir _ _ _ _ s store met Command.Look tt looked c.met-self.ensures says c.look_answer.result c.look_answer.ensures.answer c.look_answer.ensures.short c.requires.tables
     (λ tells r held. record { any_moment = λ x reaped runs heard. C.any_moment tells r held x reaped runs heard; undamaged = C.undamaged tells r held; works_stay = λ has q now. C.works_stay tells has r q held now; clear = λ has. C.clear tells has r held; bounded = λ look x runs is. C.bounded tells r held x runs is })
     (λ tells. C.untouched tells) (λ quiet. ap g.G.Ground.told (call.ensures.quiet quiet)) call.ensures.counts call.ensures.child

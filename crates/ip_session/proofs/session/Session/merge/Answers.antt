@@ -10,10 +10,10 @@ use Rattle.ip_held.specs.Collecting.{phase_of}
 use Rattle.ip_held.specs.Held.{Holds, image_records}
 use Rattle.ip_appends.specs.Merging.{merge_reply, AnswersMerge}
 use Rattle.ip_held.proofs.Untouched.{damage_refused}
-use Rattle.ip_session.specs.Asking.{MeetsNone}
+use Rattle.ip_session.specs.Asking.{IsUnanswered, MeetsNone}
 use Rattle.ip_session.specs.Running.{IsKnown, Runs}
 use Rattle.ip_session.specs.Session.{state_in, IsAnswer}
-use Rattle.ip_session.proofs.Asking.{faulted}
+use Rattle.ip_session.proofs.Asking.{faulted, faulted_bare}
 use Rattle.ip_session.proofs.ClearGoes.{keeps_by}
 use Rattle.ip_session.proofs.Damage.{causes_apart}
 use Rattle.ip_session.proofs.DurableGoes.{by_answer, damage_of, fault_ends, fault_met, answer_counts}
@@ -88,3 +88,9 @@ returns-clause-counts g c = answer_counts (merge_reply c.args.branch c.merge_int
 
 pub returns-clause-meets_none : goal.returns-clause-meets_none
 returns-clause-meets_none g c = subst MeetsNone (sym (c.met-self.ensures ∙ c.merge_into-made.ensures.met)) (faulted c.merge_into-made.result)
+
+pub returns-in-Err-clause-unanswered : goal.returns-in-Err-clause-unanswered
+returns-in-Err-clause-unanswered g c failed = absurd (cc failed)
+
+pub returns-clause-unanswered : goal.returns-clause-unanswered
+returns-clause-unanswered g c failed = subst IsUnanswered (sym (c.met-self.ensures ∙ c.merge_into-made.ensures.met)) (faulted_bare (merge_reply c.args.branch c.merge_into-made.result) c.merge_into-made.result c.merge_answer.result c.merge_answer.ensures.answer failed)

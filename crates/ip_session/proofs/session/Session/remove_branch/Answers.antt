@@ -8,10 +8,10 @@ use Rattle.ip_held.specs.Answers.{met_by}
 use Rattle.ip_held.specs.Collecting.{phase_of}
 use Rattle.ip_appends.specs.Naming.{removed_reply, AnswersRemove}
 use Rattle.ip_held.proofs.Works.{works_stay}
-use Rattle.ip_session.specs.Asking.{MeetsNone}
+use Rattle.ip_session.specs.Asking.{IsUnanswered, MeetsNone}
 use Rattle.ip_session.specs.Running.{IsKnown, Runs}
 use Rattle.ip_session.specs.Session.{unasked, IsAnswer}
-use Rattle.ip_session.proofs.Asking.{faulted}
+use Rattle.ip_session.proofs.Asking.{faulted, faulted_bare}
 use Rattle.ip_session.proofs.BranchGoes.{serves, remove_goes, remove_cut, has_answer_removed}
 use Rattle.ip_session.proofs.ClearGoes.{keeps_by}
 use Rattle.ip_session.proofs.Damage.{sound_apart}
@@ -60,3 +60,6 @@ returns-clause-counts g c = answer_counts (removed_reply c.args.name c.remove_br
 
 pub returns-clause-meets_none : goal.returns-clause-meets_none
 returns-clause-meets_none g c = subst MeetsNone (sym (c.met-self.ensures ∙ c.remove_branch-made.ensures.met)) (faulted c.remove_branch-made.result)
+
+pub returns-clause-unanswered : goal.returns-clause-unanswered
+returns-clause-unanswered g c failed = subst IsUnanswered (sym (c.met-self.ensures ∙ c.remove_branch-made.ensures.met)) (faulted_bare (removed_reply c.args.name c.remove_branch-made.result) c.remove_branch-made.result c.removed_answer.result c.removed_answer.ensures.answer failed)

@@ -9,10 +9,10 @@ use Rattle.ip_held.specs.Collecting.{phase_of}
 use Rattle.ip_appends.specs.Naming.{branch_reply, AnswersSet}
 use Rattle.ip_held.proofs.Works.{works_stay}
 use Rattle.ip_held.specs.Held.{image_records}
-use Rattle.ip_session.specs.Asking.{MeetsNone}
+use Rattle.ip_session.specs.Asking.{IsUnanswered, MeetsNone}
 use Rattle.ip_session.specs.Running.{IsKnown, Runs}
 use Rattle.ip_session.specs.Session.{unasked, state_in}
-use Rattle.ip_session.proofs.Asking.{faulted}
+use Rattle.ip_session.proofs.Asking.{faulted, faulted_bare}
 use Rattle.ip_session.proofs.BranchGoes.{unnamed_goes, serves, set_goes, set_cut, has_answer_set}
 use Rattle.ip_session.proofs.ClearGoes.{keeps_by}
 use Rattle.ip_session.proofs.Damage.{sound_apart}
@@ -84,3 +84,9 @@ returns-clause-counts g c = answer_counts (branch_reply c.set_branch-made.result
 
 pub returns-clause-meets_none : goal.returns-clause-meets_none
 returns-clause-meets_none g c = subst MeetsNone (sym (c.met-self.ensures ∙ c.set_branch-made.ensures.met)) (faulted c.set_branch-made.result)
+
+pub returns-in-Err-clause-unanswered : goal.returns-in-Err-clause-unanswered
+returns-in-Err-clause-unanswered g c failed = absurd (cc failed)
+
+pub returns-clause-unanswered : goal.returns-clause-unanswered
+returns-clause-unanswered g c failed = subst IsUnanswered (sym (c.met-self.ensures ∙ c.set_branch-made.ensures.met)) (faulted_bare (branch_reply c.set_branch-made.result) c.set_branch-made.result c.branch_answer.result c.branch_answer.ensures.answer failed)

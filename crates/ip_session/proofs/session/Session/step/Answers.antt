@@ -25,14 +25,14 @@ use Rattle.ip_session.specs.Wanting.{MayWant}
 use Rattle.ip_session.proofs.session.Session.step.Goals as goal
 
 pub returns-in-Ok-clause-tables : goal.returns-in-Ok-clause-tables
-returns-in-Ok-clause-tables g c = c.run.ensures.runs.serving
+returns-in-Ok-clause-tables g c = c.run.ensures.ran.runs.serving
 
 pub returns-in-Ok-clause-goes : goal.returns-in-Ok-clause-goes
 returns-in-Ok-clause-goes g c told decisive r v here = lined_ok _ _ _ c.args.self.now c.run.new.self c.met_only-self.result r v c.in-Ok.command c.args.line.now c.run.result c.in-Ok.ensures.reads
-    (λ other spelled. one_command c.args.line.now other c.in-Ok.command spelled c.in-Ok.ensures.reads) (c.run.ensures.runs.goes (told, decisive) r v here)
+    (λ other spelled. one_command c.args.line.now other c.in-Ok.command spelled c.in-Ok.ensures.reads) (c.run.ensures.ran.runs.goes (told, decisive) r v here)
 
 pub returns-in-Ok-clause-cut : goal.returns-in-Ok-clause-cut
-returns-in-Ok-clause-cut g c told decisive r v here = lined_cut _ _ _ c.args.self.now c.run.new.self c.met_only-self.result r v c.in-Ok.command c.args.line.now c.run.result c.in-Ok.ensures.reads (c.run.ensures.runs.cut (told, decisive) r v here)
+returns-in-Ok-clause-cut g c told decisive r v here = lined_cut _ _ _ c.args.self.now c.run.new.self c.met_only-self.result r v c.in-Ok.command c.args.line.now c.run.result c.in-Ok.ensures.reads (c.run.ensures.ran.runs.cut (told, decisive) r v here)
 
 pub returns-in-Err-Bad-clause-goes : goal.returns-in-Err-Bad-clause-goes
 returns-in-Err-Bad-clause-goes g c told decisive r v here = bad_goes _ _ c.args.self.now c.met_only-self.result r v here c.args.line.now c.in-Err-Bad.at c.met_only-self.ensures
@@ -44,7 +44,7 @@ returns-in-Err-Memory-clause-goes g c told decisive r v here = refused_goes _ _ 
 
 pub returns-in-Ok-clause-placed : goal.returns-in-Ok-clause-placed
 returns-in-Ok-clause-placed g c told decisive r v here = lined_placed _ _ _ _ _ _ v c.in-Ok.command c.args.line.now c.run.result c.in-Ok.ensures.reads
-    (λ other spelled. one_command c.args.line.now other c.in-Ok.command spelled c.in-Ok.ensures.reads) (c.run.ensures.runs.placed (told, decisive) r v here)
+    (λ other spelled. one_command c.args.line.now other c.in-Ok.command spelled c.in-Ok.ensures.reads) (c.run.ensures.ran.runs.placed (told, decisive) r v here)
 
 pub returns-in-Err-Bad-clause-placed : goal.returns-in-Err-Bad-clause-placed
 returns-in-Err-Bad-clause-placed g c told decisive r v here = quiet_placed _ _ _ _ _ _ v c.args.line.now (Reply.Bad c.in-Err-Bad.at) (λ command h. h) (λ command h. h) (λ l is. absurd (cc is)) tt refl
@@ -55,7 +55,7 @@ returns-in-Err-Memory-clause-placed g c told decisive r v here =
 
 pub returns-in-Ok-clause-bounded : goal.returns-in-Ok-clause-bounded
 returns-in-Ok-clause-bounded g c told decisive r v here look = lined_bounded here.holds.stands.standing.records c.args.self.now.store.held.collection c.in-Ok.command c.args.line.now c.run.result
-    (λ other spelled. one_command c.args.line.now other c.in-Ok.command spelled c.in-Ok.ensures.reads) (c.run.ensures.runs.bounded (told, decisive) r v here) look
+    (λ other spelled. one_command c.args.line.now other c.in-Ok.command spelled c.in-Ok.ensures.reads) (c.run.ensures.ran.runs.bounded (told, decisive) r v here) look
 
 pub returns-in-Err-Bad-clause-bounded : goal.returns-in-Err-Bad-clause-bounded
 returns-in-Err-Bad-clause-bounded g c told decisive r v here look = tt
@@ -65,7 +65,7 @@ returns-in-Err-Memory-clause-bounded g c told decisive r v here look = subst (Is
 
 pub returns-in-Ok-clause-clear : goal.returns-in-Ok-clause-clear
 returns-in-Ok-clause-clear g c told r v here = lined_clear _ _ c.args.self.now c.run.new.self c.met_only-self.result c.in-Ok.command c.args.line.now c.run.result c.in-Ok.ensures.reads
-    (λ other spelled. one_command c.args.line.now other c.in-Ok.command spelled c.in-Ok.ensures.reads) (c.run.ensures.runs.clear told r v here)
+    (λ other spelled. one_command c.args.line.now other c.in-Ok.command spelled c.in-Ok.ensures.reads) (c.run.ensures.ran.runs.clear told r v here)
 
 pub returns-in-Err-Bad-clause-clear : goal.returns-in-Err-Bad-clause-clear
 returns-in-Err-Bad-clause-clear g c told r v here = quiet_clear _ _ c.args.self.now _ c.args.line.now (Reply.Bad c.in-Err-Bad.at) (λ h. h) (λ clear. clear) refl
@@ -75,25 +75,25 @@ returns-in-Err-Memory-clause-clear g c told r v here = quiet_clear _ _ c.args.se
 
 pub returns-in-Ok-clause-asked : goal.returns-in-Ok-clause-asked
 returns-in-Ok-clause-asked g c = lined_asked _ _ _ _ c.args.self.now c.run.new.self c.met_only-self.result c.in-Ok.command c.args.line.now c.run.result _ _ c.in-Ok.ensures.reads
-    (λ other spelled. one_command c.args.line.now other c.in-Ok.command spelled c.in-Ok.ensures.reads) c.run.ensures.asked
+    (λ other spelled. one_command c.args.line.now other c.in-Ok.command spelled c.in-Ok.ensures.reads) c.run.ensures.ran.asked
 
 pub returns-in-Ok-clause-counts : goal.returns-in-Ok-clause-counts
-returns-in-Ok-clause-counts g c = lined_counts c.in-Ok.command c.args.line.now c.run.result c.run.new.self.met _ _ c.in-Ok.ensures.reads (λ other spelled. one_command c.args.line.now other c.in-Ok.command spelled c.in-Ok.ensures.reads) c.run.ensures.counts
+returns-in-Ok-clause-counts g c = lined_counts c.in-Ok.command c.args.line.now c.run.result c.run.new.self.met _ _ c.in-Ok.ensures.reads (λ other spelled. one_command c.args.line.now other c.in-Ok.command spelled c.in-Ok.ensures.reads) c.run.ensures.ran.counts
 
 pub returns-in-Ok-clause-child : goal.returns-in-Ok-clause-child
-returns-in-Ok-clause-child g c = c.run.ensures.child
+returns-in-Ok-clause-child g c = c.run.ensures.ran.child
 
 pub returns-in-Ok-clause-quiet : goal.returns-in-Ok-clause-quiet
-returns-in-Ok-clause-quiet g c = c.run.ensures.quiet
+returns-in-Ok-clause-quiet g c = c.run.ensures.ran.quiet
 
 pub returns-in-Ok-clause-cause : goal.returns-in-Ok-clause-cause
 returns-in-Ok-clause-cause g c decisive =
     let s = c.args.self.now in
     let a = g.G.Ground.told c.args.ground.now in
-    ends_more c.run.result (IsKnown (IsTrue g.G.Ground.tells × IsDecisive (g.D.Decides.rule c.args.rules.now)) a s) (IsHeld g.G.Ground.tells a s) (λ held. ((held.0, decisive), held.1)) c.run.ensures.runs.cause
+    ends_more c.run.result (IsKnown (IsTrue g.G.Ground.tells × IsDecisive (g.D.Decides.rule c.args.rules.now)) a s) (IsHeld g.G.Ground.tells a s) (λ held. ((held.0, decisive), held.1)) c.run.ensures.ran.runs.cause
 
 pub returns-in-Ok-clause-untouched : goal.returns-in-Ok-clause-untouched
-returns-in-Ok-clause-untouched g c told damaged = (c.in-Ok.command, c.in-Ok.ensures.reads, c.run.ensures.runs.untouched told damaged)
+returns-in-Ok-clause-untouched g c told damaged = (c.in-Ok.command, c.in-Ok.ensures.reads, c.run.ensures.ran.runs.untouched told damaged)
 
 pub returns-in-Err-Bad-clause-asked : goal.returns-in-Err-Bad-clause-asked
 returns-in-Err-Bad-clause-asked g c = nothing_spawned _ _ _ c.args.self.now _ c.args.line.now (Reply.Bad c.in-Err-Bad.at) _ tt (none_met c.met_only-self.result false c.met_only-self.ensures) refl
@@ -112,10 +112,21 @@ returns-in-Err-Memory-clause-counts g c = none_counts c.args.line.now c.refuse.r
 pub returns-in-Ok-clause-memory : goal.returns-in-Ok-clause-memory
 returns-in-Ok-clause-memory g c command spelled frugal r is e =
     let same = one_command c.args.line.now command c.in-Ok.command spelled c.in-Ok.ensures.reads in
-    subst (λ (k : Command). MayWant c.args.self.now.store.held.collection c.args.self.now.work r k c.run.new.self.met.child) (sym same) (c.run.ensures.memory r is e)
+    subst (λ (k : Command). MayWant c.args.self.now.store.held.collection c.args.self.now.work r k c.run.new.self.met.child) (sym same) (c.run.ensures.ran.memory r is e)
 
 pub returns-in-Err-Bad-clause-memory : goal.returns-in-Err-Bad-clause-memory
 returns-in-Err-Bad-clause-memory g c command spelled frugal r is e = absurd (cc e)
 
 pub returns-in-Err-Memory-clause-memory : goal.returns-in-Err-Memory-clause-memory
 returns-in-Err-Memory-clause-memory g c command spelled frugal r is e = absurd (c.in-Err-Memory.ensures.spare command spelled frugal (ap Err c.in-Err-Memory.field-0-is))
+
+-- ---- nothing was asked of the ground
+
+pub returns-in-Ok-clause-still : goal.returns-in-Ok-clause-still
+returns-in-Ok-clause-still g c each = c.run.ensures.still (each c.in-Ok.command c.in-Ok.ensures.reads)
+
+pub returns-in-Err-Bad-clause-still : goal.returns-in-Err-Bad-clause-still
+returns-in-Err-Bad-clause-still g c each = (refl, refl)
+
+pub returns-in-Err-Memory-clause-still : goal.returns-in-Err-Memory-clause-still
+returns-in-Err-Memory-clause-still g c each = (refl, refl)
