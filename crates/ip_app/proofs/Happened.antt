@@ -135,7 +135,10 @@ module _ (s s' : Session) (end : SessionEnd) (difference : Option Difference) (j
       asks = asks_by s s' reply difference jobs ends after a b p q line command (Err end) by;
       none_failed = (none.0, none.1);
       none_left = (none.2, removals_still (counted_end end) a b counted);
+      unanswered = by.unanswered refl;
+      reached = by.reached refl;
     };
+    none = λ no. let it = asked.none no in (it.1, it.2, removals_still (counted_end end) a b counted);
   }
 
   pub cut_of : (line : Bytes) (met : Met) (before later : TurnCounts) → met ≡ s'.met → before ≡ turn_counts a p → later ≡ turn_counts b q → AskedIn s s' line (Err end) jobs ends p q → CountsIf (counted_end end) a b → HappensCut (phase_of s.store.held.collection) (exchange_of line met before later difference jobs ends reply after)

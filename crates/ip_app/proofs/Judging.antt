@@ -8,7 +8,7 @@
 --     watches_along      where a reply is said behind an exchange
 --     heard_by      which collection's child was heard of.      watches_of      what an exchange met of it, by what the session says
 use Rattle.std.proofs.Common.{◌≡◌, ◌≢◌, inl, inr, ℕ, ◌≤◌, ◌++◌, length, Bool, true, false, List, [], ◌∷◌, refl, sym, ap, ap₂, ◌∙◌, subst, arith, append_assoc, append-nil, Option, Some, None, Ok}
-use Rattle.std.specs.Prelude.{◌+◌, count_by, IfSome, IsSomeAnd}
+use Rattle.std.specs.Prelude.{◌+◌, ◌<◌, IfSome, IsSomeAnd}
 use Rattle.std.proofs.lemmas.Bool.{cases_lt}
 use Rattle.ip_ground.specs.declared.names.FileName.{FileName}
 use Rattle.ip_base.specs.declared.exit.Reaped.{Reaped}
@@ -20,7 +20,7 @@ use Rattle.ip_ground.proofs.Spans.{said_now}
 use Rattle.ip_spawn.specs.declared.job.Job.{Job}
 use Rattle.ip_spawn.specs.declared.spawner.SpawnCounts.{SpawnCounts}
 use Rattle.ip_spec.specs.declared.command.Command.{Command}
-use Rattle.ip_spec.specs.declared.met.Child.TheVariants as Child
+use Rattle.ip_spec.specs.declared.met.Child.{Child}
 use Rattle.ip_spec.specs.declared.met.Met.{Met}
 use Rattle.ip_spec.specs.declared.reply.Difference.{Difference}
 use Rattle.ip_spec.specs.declared.reply.Reply.{Reply}
@@ -44,7 +44,6 @@ use Rattle.ip_image.proofs.HeadlineLaws.{one_slot}
 use Rattle.ip_held.specs.declared.collection.Collection.{Collection}
 use Rattle.ip_held.specs.declared.collection.Unswept.{Unswept}
 use Rattle.ip_held.specs.declared.held.Held.{Held}
-use Rattle.ip_collects.specs.Finishing.{looked_at}
 use Rattle.ip_collects.specs.Starting.{IsJobAt}
 use Rattle.ip_held.specs.Clear.{IsClear, IsClearAt, IsClearTo, unswept_in}
 use Rattle.ip_held.specs.Collecting.{phase_of, until, Collects, IsJobOf, IsOfChild, IsPhaseOf}
@@ -53,19 +52,19 @@ use Rattle.ip_held.specs.Slots.{KeepsSlots}
 use Rattle.ip_held.specs.Sweeping as sweeping
 use Rattle.ip_held.proofs.Recovering.{held_has}
 use Rattle.ip_held.proofs.SlotLaws.{slots_on}
-use Rattle.ip_keep.specs.Keeping.{starts_between}
+use Rattle.ip_check.specs.Checking.{LooksAtAll}
 use Rattle.ip_session.specs.declared.session.Session.{Session}
-use Rattle.ip_session.specs.Asking.{GoesOnBy, HasStarted, HeardOf, IsBoundedIn, IsSlicedIn, AskedIn, looks}
+use Rattle.ip_session.specs.Asking.{GoesOnBy, HasStarted, HeardOf, IsBoundedIn, IsSlicedIn, LooksBy, AskedIn, looked_in, looks}
 use Rattle.ip_session.specs.Clearing.{ClearIn, unswept_behind}
 use Rattle.ip_session.specs.Placing.{PlacedIn}
 use Rattle.ip_session.specs.Session.{conditions_with, state_in, IsWorking, IsViewIn, IsJudgedIn, IsSettledIn, KeepsSpaceIn}
 use Rattle.ip_session.proofs.Changing.{still_space}
 use Rattle.ip_app.specs.Exchanges.{Exchange, after_all, texts_in}
-use Rattle.ip_app.specs.Judged.{IsWatchedTo, WatchedIn, texts_by, says_nothing, Started, last_started, IsSettledAt, IsConcluded, IsJudgedAs, IsServedAs, IsSameFor, ReadsSame, IsHeldIn, Point, begun_at, behind_it, point_of, looked_in, IsCheckedTo, IsAimed, Settles, StaysFrom, HearsNone, AllLeft, Watches, Watched, AllWatched}
+use Rattle.ip_app.specs.Judged.{IsWatchedTo, WatchedIn, texts_by, says_nothing, Started, last_started, IsSettledAt, IsConcluded, IsJudgedAs, IsServedAs, IsSameFor, ReadsSame, IsHeldIn, Point, begun_at, behind_it, point_of, FindsValid, IsCheckedTo, IsAimed, Settles, StaysFrom, HearsNone, AllLeft, Watches, Watched, AllWatched}
 use Rattle.ip_app.specs.Places.{StartsAt, HearsAt}
 use Rattle.ip_app.proofs.Cleared.{clear_behind, left_behind}
 use Rattle.ip_app.proofs.Happened.{exchange_of}
-use Rattle.ip_app.proofs.Looked.{checked_to, looked_on}
+use Rattle.ip_app.proofs.Looked.{checked_to, looked_none, looked_on, looked_same}
 use Rattle.ip_app.proofs.Settling.{settles_none, settles_on, settles_still, stays_behind, stays_first, stays_later}
 use Rattle.ip_app.proofs.KeptSpace.{same_space, space_on, pending_space, stays_space}
 
@@ -78,6 +77,15 @@ some_more (Some x) P Q more is = more x is
 some_by : {X : Type 0} (o : Option X) (P Q : X → Type 0) (R : Type 0) → ((x : X) → P x → Q x → R) → IfSome o P → IsSomeAnd o Q → R
 some_by None P Q R each p q = absurd q
 some_by (Some x) P Q R each p q = each x p q
+
+-- of what there is, if anything
+if_more : {X : Type 0} (o : Option X) (P Q : X → Type 0) → ((x : X) → P x → Q x) → IfSome o P → IfSome o Q
+if_more None P Q more is = tt
+if_more (Some x) P Q more is = more x is
+
+-- since then this slot alone is live in whatever a crash leaves, up to a moment
+abbrev IsLiveUntil : Told → Slot → (until : ℕ) → Option ℕ → Type 0
+IsLiveUntil told slot until o = IfSome o (λ at. (t : ℕ) → at < t → t ≤ until → (crashed : Image) → IsPossible told t crashed → HasLive slot crashed)
 
 some_with : {X : Type 0} (o : Option X) (P Q : X → Type 0) → IfSome o P → IsSomeAnd o Q → IsSomeAnd o (λ x. P x × Q x)
 some_with None P Q p q = absurd q
@@ -158,12 +166,16 @@ module _ (a b : Told) (goes : KeepsPast a b) where
         judged = λ reaped ended. some_more p.last _ _ (λ child is. judged_later answered behind p.state.phase was.stands.standing.records child.job reaped x was.by_now is) (was.judged reaped ended);
         checked = was.checked;
         looked = was.looked;
+        same = was.same;
+        begun = was.begun;
+        few = was.few;
         lent = λ held. some_more p.last _ _ (λ child is. goes.lending began child.job.attempt early ∙ is) (was.lent held);
         lent_behind = λ held. some_more q.last _ _ (λ child is. goes.lending answered child.job.attempt was.by_now ∙ is) (was.lent_behind held);
         swept = λ has. some_more p.last _ _ (λ child is. (is.0, settled_later answered child.job.attempt is.0 was.by_now is.1)) (was.swept has);
         all_but = λ has. left_behind (sweeping.IsSwept q.slot p.unswept) x.turn.met.left behind (a.lending_at answered) (b.lending_at answered) (λ attempt. goes.lending answered attempt was.by_now) (was.all_but has);
         bounded = was.bounded;
         slots = λ order t late le crashed possible. (let now = was.by_now in was.slots order t late le crashed (possible_before t crashed (omega (arith, le, now)) possible));
+        live_until = if_more p.answered _ _ (λ at live t late le crashed possible. live t late le crashed (possible_before t crashed (omega (arith, le, early)) possible)) was.live_until;
         stays = λ order t low high. stays_later a b goes (settles order) t answered high was.by_now (was.stays order t low high);
         clear = λ clear swept none slot has. clear_behind slot behind (a.lending_at answered) (b.lending_at answered) (λ attempt. goes.lending answered attempt was.by_now) (was.clear clear swept none slot has);
         reads = λ order held. some_more p.last _ _ (λ child is. (reads_later child began early is.0, λ none. reads_later child answered was.by_now (is.1 none))) (was.reads order held);
@@ -188,12 +200,12 @@ Going collection last = IfSome collection (λ c. IsSomeAnd last (λ child. child
 pub none_going : (collection : Option Collection) → collection ≡ None → Going collection None
 none_going collection is = subst (λ (o : Option Collection). Going o None) (sym is) tt
 
-going_more : (answered : ℕ) (image : Image) (jobs : List Job) (last : Option Started) (before now : Option Collection) → Going before last → GoesOnBy jobs before now → Going now (last_started answered image jobs last)
-going_more answered image jobs last before None going goes = tt
-going_more answered image jobs last before (Some c) going (inl started) = subst (λ (js : List Job). IsSomeAnd (last_started answered image js last) (λ child. child.job ≡ c.job)) (sym started) refl
-going_more answered image jobs last before (Some c) going (inr (none, same)) =
+going_more : (child : Child) (answered : ℕ) (image : Image) (jobs : List Job) (last : Option Started) (before now : Option Collection) → Going before last → GoesOnBy child jobs before now → Going now (last_started answered image jobs last)
+going_more child answered image jobs last before None going goes = tt
+going_more child answered image jobs last before (Some c) going (inl started) = subst (λ (js : List Job). IsSomeAnd (last_started answered image js last) (λ child. child.job ≡ c.job)) (sym started.0) refl
+going_more child answered image jobs last before (Some c) going (inr (none, same)) =
     subst (λ (js : List Job). IsSomeAnd (last_started answered image js last) (λ child. child.job ≡ c.job)) (sym none)
-    (some_by before (λ d. IsSomeAnd last (λ child. child.job ≡ d.job)) (λ d. (c.commit ≡ d.commit) × (c.job ≡ d.job) × (c.exit ≡ None → d.exit ≡ None) × (looked_at d ≤ looked_at c)) _ (λ d started is. some_more last _ _ (λ child e. e ∙ sym is.1) started) going same)
+    (some_by before (λ d. IsSomeAnd last (λ child. child.job ≡ d.job)) (λ d. (c.commit ≡ d.commit) × (c.job ≡ d.job) × (c.exit ≡ None → d.exit ≡ None) × LooksBy child d c) _ (λ d started is. some_more last _ _ (λ child e. e ∙ sym is.1) started) going same)
 
 -- what is so of a collection's job is so of that of its child
 of_going : (collection : Option Collection) (last : Option Started) → Going collection last → (P : Job → Type 0) → IsSomeAnd collection (λ c. P c.job) → IsSomeAnd last (λ child. P child.job)
@@ -230,10 +242,13 @@ lent_in told store r holds s phase held = by store.collection holds.collects (he
 abbrev StaysSo : Told → Told → Type 0
 StaysSo old told = NothingPending old → (t : ℕ) → old.moment ≤ t → t ≤ told.moment → StaysFrom told t told.moment
 
--- a look that collects, by how many records were looked at before
-bounded_by : (records : Records) (before : Option Collection) (reply : Reply) (floor left : ℕ) → reply ≡ Reply.Collected floor left → IsBoundedIn records before reply → IsSomeAnd before (λ c. count_by (starts_between c.job.horizon c.job.end) records ≤ looked_in before + looks)
-bounded_by records None reply floor left is bounded = subst (IsBoundedIn records None) is bounded
-bounded_by records (Some c) reply floor left is bounded = subst (IsBoundedIn records (Some c)) is bounded
+-- a look that finds the pair valid, by how many records were looked at before
+bounded_by : (records : Records) (before : Option Collection) (reply : Reply) → FindsValid reply → IsBoundedIn records before reply → IsSomeAnd before (λ c. LooksAtAll (until c.job.end records) c.job (looked_in before + looks))
+bounded_by records None (Reply.Collected floor left) valid bounded = bounded
+bounded_by records (Some c) (Reply.Collected floor left) valid bounded = bounded
+bounded_by records None (Reply.Limit limit) valid bounded = bounded
+bounded_by records (Some c) (Reply.Limit limit) valid bounded = bounded
+bounded_by records before _ valid bounded = absurd valid
 
 -- ---- one exchange
 
@@ -273,7 +288,7 @@ module _ (rule : Rule) (a b : Told) (goes : KeepsPast a b) (s : State) (v view :
   Found o = IsSomeAnd o (λ child. ReadsNow b child)
 
   -- of the child that is held behind it
-  reads_then : GoesOnBy x.started before now → NothingPending a → Reads a s last → Reads b x.after (last_started w.answered w.behind x.started last)
+  reads_then : GoesOnBy x.turn.met.child x.started before now → NothingPending a → Reads a s last → Reads b x.after (last_started w.answered w.behind x.started last)
   reads_then goes_on order reads held = by now refl (held_some x.after now w.phase_behind held) goes_on w.job_behind
     where
       unheard : (reaped : Reaped) → x.turn.met.child ≢ Child.Ended reaped
@@ -299,22 +314,22 @@ module _ (rule : Rule) (a b : Told) (goes : KeepsPast a b) (s : State) (v view :
       held_before : (c d : Collection) → before ≡ Some d → d.exit ≡ None → IsHeldIn s
       held_before c d is none = (d.commit, w.phase ∙ (ap phase_of is ∙ ap (Phase.Collecting d.commit) none))
 
-      going_on : (c : Collection) → IsJobOf slot' c.job → c.exit ≡ None → (o : Option Collection) → before ≡ o → IsSomeAnd o (λ d. (c.commit ≡ d.commit) × (c.job ≡ d.job) × (c.exit ≡ None → d.exit ≡ None) × (looked_at d ≤ looked_at c)) → Found last
+      going_on : (c : Collection) → IsJobOf slot' c.job → c.exit ≡ None → (o : Option Collection) → before ≡ o → IsSomeAnd o (λ d. (c.commit ≡ d.commit) × (c.job ≡ d.job) × (c.exit ≡ None → d.exit ≡ None) × LooksBy x.turn.met.child d c) → Found last
       going_on c of none None is same = absurd same
       going_on c of none (Some d) is same =
           let there = held_before c d is (same.2 none) in
           let started = subst (λ (o : Option Collection). Going o last) is going in
           some_both last (λ child. child.job ≡ d.job) (λ child. IsJobOf slot child.job) (λ child. ReadsNow a child) _ (λ child job of_before was. next c of child (job ∙ sym same.1) of_before was) started (job_there there) (reads there)
 
-      by : (o : Option Collection) → now ≡ o → IsSomeAnd o (λ c. c.exit ≡ None) → GoesOnBy x.started before o → IfSome o (λ c. IsJobOf slot' c.job) → Found (last_started w.answered w.behind x.started last)
+      by : (o : Option Collection) → now ≡ o → IsSomeAnd o (λ c. c.exit ≡ None) → GoesOnBy x.turn.met.child x.started before o → IfSome o (λ c. IsJobOf slot' c.job) → Found (last_started w.answered w.behind x.started last)
       by None is none goes_on of = absurd none
-      by (Some c) is none (inl started) of = subst (λ (jobs : List Job). Found (last_started w.answered w.behind jobs last)) (sym started) (first c of)
+      by (Some c) is none (inl started) of = subst (λ (jobs : List Job). Found (last_started w.answered w.behind jobs last)) (sym started.0) (first c of)
       by (Some c) is none (inr (nothing, same)) of = subst (λ (jobs : List Job). Found (last_started w.answered w.behind jobs last)) (sym nothing) (going_on c of none before refl same)
 
   -- an exchange that began at the moment of which this is told
-  watched_of : (old : Told) (text : Bytes) (since : ℕ) → since ≤ a.moment → said a ≡ text → GoesOnBy x.started before now → (NothingPending old → NothingPending a) → StaysSo old a → (NothingPending old → Reads a s last) → (IsClearAt old → IsClearTo slot unswept a.held (lending a))
-      → Watched rule old b text since (point_of s v slot unswept last before) (point_of x.after view slot' unswept' (last_started w.answered w.behind x.started last) now) x a.moment w.answered a.held w.behind
-  watched_of old text since over all goes_on calm stays reads cleared = record {
+  watched_of : (old : Told) (text : Bytes) (since : ℕ) → since ≤ a.moment → said a ≡ text → GoesOnBy x.turn.met.child x.started before now → (NothingPending old → NothingPending a) → StaysSo old a → (NothingPending old → Reads a s last) → (IsClearAt old → IsClearTo slot unswept a.held (lending a)) → (at : Option ℕ) → IsLiveUntil a slot a.moment at
+      → Watched rule old b text since (point_of s v slot unswept last before at) (point_of x.after view slot' unswept' (last_started w.answered w.behind x.started last) now (Some w.answered)) x a.moment w.answered a.held w.behind
+  watched_of old text since over all goes_on calm stays reads cleared at live = record {
     over = over;
     later = w.later;
     by_now = w.by_now;
@@ -336,12 +351,16 @@ module _ (rule : Rule) (a b : Told) (goes : KeepsPast a b) (s : State) (v view :
     judged = λ reaped ended. by_going (λ job. IsJudgedAs b w.answered w.behind s.phase w.stands.standing.records job reaped x) (w.judged reaped ended);
     checked = λ left is. by_going (λ job. IsCheckedTo (until job.end w.stands_behind.standing.records) job (looked_in before) (looked_in now) left) (w.checked left is);
     looked = w.looked;
+    same = w.same;
+    begun = w.begun;
+    few = w.few;
     lent = λ held. by_going (λ job. b.lending_at a.moment job.attempt ≡ lent) (some_more before _ _ (λ c is. goes.lending a.moment c.job.attempt (omega arith) ∙ is) (w.lent held));
-    lent_behind = λ held. of_going now (last_started w.answered w.behind x.started last) (going_more w.answered w.behind x.started last before now going goes_on) (λ job. b.lending_at w.answered job.attempt ≡ lent) (w.lent_behind held);
+    lent_behind = λ held. of_going now (last_started w.answered w.behind x.started last) (going_more x.turn.met.child w.answered w.behind x.started last before now going goes_on) (λ job. b.lending_at w.answered job.attempt ≡ lent) (w.lent_behind held);
     swept = λ has. by_going (λ job. (pair : Image) × IsSettledAt b w.answered job.attempt pair) (w.swept has);
     all_but = w.all_but;
-    bounded = λ looks_at floor left is. by_going (λ job. count_by (starts_between job.horizon job.end) w.stands.standing.records ≤ looked_in before + looks) (bounded_by w.stands.standing.records before x.reply floor left is (w.bounded looks_at));
+    bounded = λ looks_at valid. by_going (λ job. LooksAtAll (until job.end w.stands.standing.records) job (looked_in before + looks)) (bounded_by w.stands.standing.records before x.reply valid (w.bounded looks_at));
     slots = λ order t late le crashed possible. (let now = w.by_now in w.slots (calm order) slot w.has t late (omega (arith, le, now)) crashed possible);
+    live_until = if_more at _ _ (λ m was t late le crashed possible. was t late le crashed (possible_before a b goes t crashed le possible)) live;
     stays = λ order t low high. w.stays (calm order) t (λ soon. stays order t low soon) high;
     clear = λ clear swept none u has. subst (λ (t : Slot). IsClear t w.behind (b.lending_at w.answered)) (one_slot slot' u w.behind w.has_behind has) (w.clear (cleared clear) swept none);
     reads = λ order held. some_both last (λ child. IsJobOf slot child.job) (λ child. ReadsNow a child) (λ child. Unit {0}) _
@@ -361,13 +380,13 @@ none_said (x ∷ xs) = none_said xs
 -- ---- one exchange more
 
 pub watched_more : (rule : Rule) (says : Reply → Bytes) (old a b : Told) → KeepsPast a b → (text : Bytes) (since : ℕ) (p : Point) (xs : List Exchange) (s : State) (v view : View) (before now : Option Collection) (slot slot' : Slot) (unswept unswept' : Unswept) (x : Exchange) (last : Option Started)
-    → AllWatched rule says old a text since p xs (point_of s v slot unswept last before) → since ≤ a.moment → said a ≡ text ++ texts_by says xs → Going before last → GoesOnBy x.started before now → (NothingPending old → NothingPending a) → StaysSo old a → (NothingPending old → Reads a s last) → (IsClearAt old → IsClearTo slot unswept a.held (lending a))
-    → (w : Watches rule a b s v view before now slot slot' unswept unswept' x) → AllWatched rule says old b text since p (xs ++ x ∷ []) (point_of x.after view slot' unswept' (last_started w.answered w.behind x.started last) now)
-watched_more rule says old a b goes text since p [] s v view before now slot slot' unswept unswept' x last was over all going goes_on calm stays reads cleared w =
-    let end : Point = point_of x.after view slot' unswept' (last_started w.answered w.behind x.started last) now in
+    → (at : Option ℕ) → IsLiveUntil a slot a.moment at → AllWatched rule says old a text since p xs (point_of s v slot unswept last before at) → since ≤ a.moment → said a ≡ text ++ texts_by says xs → Going before last → GoesOnBy x.turn.met.child x.started before now → (NothingPending old → NothingPending a) → StaysSo old a → (NothingPending old → Reads a s last) → (IsClearAt old → IsClearTo slot unswept a.held (lending a))
+    → (w : Watches rule a b s v view before now slot slot' unswept unswept' x) → AllWatched rule says old b text since p (xs ++ x ∷ []) (point_of x.after view slot' unswept' (last_started w.answered w.behind x.started last) now (Some w.answered))
+watched_more rule says old a b goes text since p [] s v view before now slot slot' unswept unswept' x last at live was over all going goes_on calm stays reads cleared w =
+    let end : Point = point_of x.after view slot' unswept' (last_started w.answered w.behind x.started last) now (Some w.answered) in
     subst (λ (q : Point). AllWatched rule says old b text since q (x ∷ []) end) was
-    (a.moment, w.answered, a.held, w.behind, view, slot', unswept', looked_in now, watched_of rule a b goes s v view before now slot slot' unswept unswept' x w last going old text since over (all ∙ append-nil text) goes_on calm stays reads cleared, refl)
-watched_more rule says old a b goes text since p (y ∷ xs) s v view before now slot slot' unswept unswept' x last was over all going goes_on calm stays reads cleared w = (
+    (a.moment, w.answered, a.held, w.behind, view, slot', unswept', looked_in now, watched_of rule a b goes s v view before now slot slot' unswept unswept' x w last going old text since over (all ∙ append-nil text) goes_on calm stays reads cleared at live, refl)
+watched_more rule says old a b goes text since p (y ∷ xs) s v view before now slot slot' unswept unswept' x last at live was over all going goes_on calm stays reads cleared w = (
   was.0,
   was.1,
   was.2,
@@ -377,7 +396,7 @@ watched_more rule says old a b goes text since p (y ∷ xs) s v view before now 
   was.6,
   was.7,
   watched_later a b goes rule old (λ order. w.settles (calm order)) text since p (behind_it p y was.1 was.3 was.4 was.5 was.6 was.7) y was.0 was.1 was.2 was.3 was.8,
-  watched_more rule says old a b goes (text ++ says y.reply) was.1 (behind_it p y was.1 was.3 was.4 was.5 was.6 was.7) xs s v view before now slot slot' unswept unswept' x last was.9 was.8.by_now (all ∙ sym (append_assoc text (says y.reply) (texts_by says xs))) going goes_on calm stays reads cleared w,
+  watched_more rule says old a b goes (text ++ says y.reply) was.1 (behind_it p y was.1 was.3 was.4 was.5 was.6 was.7) xs s v view before now slot slot' unswept unswept' x last at live was.9 was.8.by_now (all ∙ sym (append_assoc text (says y.reply) (texts_by says xs))) going goes_on calm stays reads cleared w,
 )
 
 -- none more, while time goes on
@@ -405,12 +424,14 @@ ended_cut a b goes s store r holds phase last going held reads None_heard space 
 
 -- one exchange more of a run
 pub watched_next : (rule : Rule) (says : Reply → Bytes) (old a b : Told) → KeepsPast old a → KeepsPast a b → (start : Slot) (first : State) (xs : List Exchange) (v view : View) (before now : Option Collection) (slot slot' : Slot) (unswept unswept' : Unswept) (x : Exchange) → IsWatchedTo rule says old a start first xs before slot unswept v → said a ≡ said old ++ texts_by says xs
-    → (NothingPending old → NothingPending a) → after_all first (xs ++ x ∷ []) ≡ x.after → GoesOnBy x.started before now → (IsClearAt old → IsClearTo slot unswept a.held (lending a)) → Watches rule a b (after_all first xs) v view before now slot slot' unswept unswept' x → IsWatchedTo rule says old b start first (xs ++ x ∷ []) now slot' unswept' view
+    → (NothingPending old → NothingPending a) → after_all first (xs ++ x ∷ []) ≡ x.after → GoesOnBy x.turn.met.child x.started before now → (IsClearAt old → IsClearTo slot unswept a.held (lending a)) → Watches rule a b (after_all first xs) v view before now slot slot' unswept unswept' x → IsWatchedTo rule says old b start first (xs ++ x ∷ []) now slot' unswept' view
 watched_next rule says old a b past goes start first xs v view before now slot slot' unswept unswept' x was all calm after goes_on cleared w = record {
   last = last_started w.answered w.behind x.started was.last;
-  watched = subst (λ (t : State). AllWatched rule says old b (said old) old.moment (begun_at start first) (xs ++ x ∷ []) (point_of t view slot' unswept' (last_started w.answered w.behind x.started was.last) now)) (sym after)
-      (watched_more rule says old a b goes (said old) old.moment (begun_at start first) xs (after_all first xs) v view before now slot slot' unswept unswept' x was.last was.watched past.later all was.going goes_on calm was.stays was.reads cleared w);
-  going = going_more w.answered w.behind x.started was.last before now was.going goes_on;
+  answered = Some w.answered;
+  live_until = w.stays_live;
+  watched = subst (λ (t : State). AllWatched rule says old b (said old) old.moment (begun_at start first) (xs ++ x ∷ []) (point_of t view slot' unswept' (last_started w.answered w.behind x.started was.last) now (Some w.answered))) (sym after)
+      (watched_more rule says old a b goes (said old) old.moment (begun_at start first) xs (after_all first xs) v view before now slot slot' unswept unswept' x was.last was.answered was.live_until was.watched past.later all was.going goes_on calm was.stays was.reads cleared w);
+  going = going_more x.turn.met.child w.answered w.behind x.started was.last before now was.going goes_on;
   stays = λ order t low high. stays_behind a b goes (w.settles (calm order)) t high (λ soon. was.stays order t low soon);
   reads = λ order. subst (λ (t : State). Reads b t (last_started w.answered w.behind x.started was.last)) (sym after) (reads_then rule a b goes (after_all first xs) v view before now slot slot' unswept unswept' x w was.last was.going goes_on (calm order) (was.reads order));
 }
@@ -419,6 +440,8 @@ watched_next rule says old a b past goes start first xs v view before now slot s
 pub watched_still : (rule : Rule) (says : Reply → Bytes) (old a b : Told) → KeepsPast a b → b.moment ≡ a.moment → b.held ≡ a.held → (start : Slot) (first : State) (xs : List Exchange) (collection : Option Collection) (slot : Slot) (unswept : Unswept) (v : View) → IsWatchedTo rule says old a start first xs collection slot unswept v → IsWatchedTo rule says old b start first xs collection slot unswept v
 watched_still rule says old a b goes same held start first xs collection slot unswept v w = record {
   last = w.last;
+  answered = w.answered;
+  live_until = if_more w.answered _ _ (λ at live t late le crashed possible. live t late (omega (arith, le, same)) crashed (possible_before a b goes t crashed (omega (arith, le, same)) possible)) w.live_until;
   watched = watched_along rule says old a b goes (λ order. settles_still a b same) (said old) old.moment (begun_at start first) xs _ w.watched;
   going = w.going;
   stays = λ order t low high. stays_behind a b goes (settles_still a b same) t high (λ soon. w.stays order t low soon);
@@ -433,15 +456,17 @@ watched_still rule says old a b goes same held start first xs collection slot un
 pub watched_none : (rule : Rule) (says : Reply → Bytes) (old now : Told) → SyncsOnly (Only Control) old now → (start : Slot) (first : State) (collection : Option Collection) → collection ≡ None → first.phase ≡ Phase.Idle → (unswept : Unswept) → unswept ≡ unswept_in start → (v : View) → v ≡ no_view → IsWatchedTo rule says old now start first [] collection start unswept v
 watched_none rule says old now only start first collection idle calm unswept carried v none = record {
   last = None;
+  answered = None;
+  live_until = tt;
   watched = begun collection idle unswept carried v none;
   going = none_going collection idle;
   stays = λ order t low high. stays_behind old now only.changes.goes (settles_none old now only.changes.lending) t high (λ soon. stays_first old t low soon);
   reads = λ order held. absurd (cc (held.1, calm));
 }
   where
-    begun : (o : Option Collection) → o ≡ None → (u : Unswept) → u ≡ unswept_in start → (w : View) → w ≡ no_view → point_of first w start u None o ≡ begun_at start first
+    begun : (o : Option Collection) → o ≡ None → (u : Unswept) → u ≡ unswept_in start → (w : View) → w ≡ no_view → point_of first w start u None o None ≡ begun_at start first
     begun (Some c) is u same w seen = absurd (cc is)
-    begun None is u same w seen = ap₂ (λ (t : Unswept) (y : View). point_of first y start t None None) same seen
+    begun None is u same w seen = ap₂ (λ (t : Unswept) (y : View). point_of first y start t None None None) same seen
 
 -- nor ever
 pub watched_unbegun : (rule : Rule) (says : Reply → Bytes) (is_unsaid is_cut_short : Bool) (old new : Told) (slot : Slot) (first : State) → first.phase ≡ Phase.Idle → said new ≡ said old → HasLive slot new.held → WatchedIn rule says is_unsaid is_cut_short old new slot first []
@@ -451,6 +476,7 @@ watched_unbegun rule says is_unsaid is_cut_short old new slot first calm quiet l
   all = refl;
   one = omega arith;
   none = λ _. refl;
+  some = λ short behind. absurd (behind refl);
   end = begun_at slot first;
   watched = refl;
   live = λ _. live;
@@ -460,18 +486,20 @@ watched_unbegun rule says is_unsaid is_cut_short old new slot first calm quiet l
   lent = λ held. absurd (cc (held.1, calm));
   reads = λ order held. absurd (cc (held.1, calm));
   slots = λ order some t late le. absurd (some refl);
+  live_until = tt;
 }
 
 -- the last command was cut short
 pub watched_cut : (rule : Rule) (says : Reply → Bytes) (is_unsaid is_cut_short : Bool) → is_cut_short ≡ true → (old mid new : Told) → KeepsPast mid new → (start : Slot) (first : State) (xs : List Exchange) (x : Exchange) (store : Held) (r : Repository) (v : View) → IsWatchedTo rule says old mid start first xs store.collection store.slot store.unswept v → said mid ≡ said old ++ texts_by says xs → Holds store mid r
     → (after_all first xs).phase ≡ phase_of store.collection → (NothingPending old → Settles mid new) → (NothingPending old → KeepsSlots mid new) → (NothingPending old → ((reaped : Reaped) → x.turn.met.child ≢ Child.Ended reaped) → (slot : Slot) → HasLive slot mid.held → KeepsSpace slot mid new) → WatchedIn rule says is_unsaid is_cut_short old new start first (xs ++ x ∷ [])
-watched_cut rule says is_unsaid is_cut_short cut old mid new goes start first xs x store r v w all holds phase settles slots space = record {
+watched_cut rule says is_unsaid is_cut_short short old mid new goes start first xs x store r v w all holds phase settles slots space = record {
   whole = xs;
   cut = x ∷ [];
   all = refl;
   one = omega arith;
-  none = λ c. absurd (cc (c, cut));
-  end = point_of (after_all first xs) v store.slot store.unswept w.last store.collection;
+  none = λ c. absurd (cc (c, short));
+  some = λ c behind empty. absurd (cc empty);
+  end = point_of (after_all first xs) v store.slot store.unswept w.last store.collection w.answered;
   watched = watched_along rule says old mid new goes settles (said old) old.moment (begun_at start first) xs _ w.watched;
   live = λ none. absurd (cc none);
   ended = mid.moment;
@@ -480,18 +508,20 @@ watched_cut rule says is_unsaid is_cut_short cut old mid new goes start first xs
   lent = λ held. of_going store.collection w.last w.going (λ job. new.lending_at mid.moment job.attempt ≡ lent) (some_more store.collection _ _ (λ c is. goes.lending mid.moment c.job.attempt (omega arith) ∙ is) (lent_in mid store r holds (after_all first xs) phase held));
   reads = λ order held. ended_cut mid new goes (after_all first xs) store r holds phase w.last w.going held (w.reads order held) (HearsNone (x ∷ [])) (λ none slot live. space order (none x refl) slot live);
   slots = λ order some. slots order store.slot (held_has store r mid holds);
+  live_until = if_more w.answered _ _ (λ at live t late le cut_then crashed possible. (let soon : t ≤ mid.moment = cut_then (λ none. cc none) in live t late soon crashed (possible_before mid new goes t crashed soon possible))) w.live_until;
 }
 
 -- all were answered, and then this was said
-pub watched_all : (rule : Rule) (says : Reply → Bytes) (is_unsaid is_cut_short : Bool) (old now : Told) (start : Slot) (first : State) (xs : List Exchange) (collection : Option Collection) (slot : Slot) (unswept : Unswept) (v : View) → IsWatchedTo rule says old now start first xs collection slot unswept v → HasLive slot now.held → (ended : ℕ) → ended ≤ now.moment
+pub watched_all : (rule : Rule) (says : Reply → Bytes) (is_unsaid is_cut_short : Bool) → is_cut_short ≡ false → (old now : Told) (start : Slot) (first : State) (xs : List Exchange) (collection : Option Collection) (slot : Slot) (unswept : Unswept) (v : View) → IsWatchedTo rule says old now start first xs collection slot unswept v → HasLive slot now.held → (ended : ℕ) → ended ≤ now.moment
     → (is_unsaid ≡ false → now.said_at ended ≡ said old ++ texts_by says xs) → (IsHeldIn (after_all first xs) → IsSomeAnd collection (λ c. now.lending_at ended c.job.attempt ≡ lent)) → WatchedIn rule says is_unsaid is_cut_short old now start first xs
-watched_all rule says is_unsaid is_cut_short old now start first xs collection slot unswept v w live ended le all held_then = record {
+watched_all rule says is_unsaid is_cut_short uncut old now start first xs collection slot unswept v w live ended le all held_then = record {
   whole = xs;
   cut = [];
   all = append-nil xs;
   one = omega arith;
   none = λ _. refl;
-  end = point_of (after_all first xs) v slot unswept w.last collection;
+  some = λ short behind. absurd (cc (short, uncut));
+  end = point_of (after_all first xs) v slot unswept w.last collection w.answered;
   watched = w.watched;
   live = λ _. live;
   ended = ended;
@@ -500,11 +530,12 @@ watched_all rule says is_unsaid is_cut_short old now start first xs collection s
   lent = λ held. of_going collection w.last w.going (λ job. now.lending_at ended job.attempt ≡ lent) (held_then held);
   reads = λ order held. some_more w.last _ _ (λ child was. ((λ t after early image possible. was.0 t after (omega (arith, early, le)) image possible), λ none. was.0)) (w.reads order held);
   slots = λ order some t late le. absurd (some refl);
+  live_until = if_more w.answered _ _ (λ at live t late before cut_then crashed possible. live t late before crashed possible) w.live_until;
 }
 
 -- where a reply, or more, is said behind it
-pub watches_along : (rule : Rule) (a mid b : Told) → KeepsPast a mid → KeepsPast mid b → ((attempt : ℕ) → KeepsCustody mid b attempt) → (s : State) (v view : View) (before now : Option Collection) (slot slot' : Slot) (unswept unswept' : Unswept) (x : Exchange) → (NothingPending a → NothingPending mid) → ((file : FileName) → KeepsFile mid b file) → HasLive slot' mid.held → IsSynced a Control → IsPossibleNow mid → Watches rule a mid s v view before now slot slot' unswept unswept' x → Watches rule a b s v view before now slot slot' unswept unswept' x
-watches_along rule a mid b past goes lends s v view before now slot slot' unswept unswept' x calm stays there kept possible_mid w = record {
+pub watches_along : (rule : Rule) (a mid b : Told) → KeepsPast a mid → KeepsPast mid b → ((attempt : ℕ) → KeepsCustody mid b attempt) → (s : State) (v view : View) (before now : Option Collection) (slot slot' : Slot) (unswept unswept' : Unswept) (x : Exchange) → (NothingPending a → NothingPending mid) → ((file : FileName) → KeepsFile mid b file) → HasLive slot' mid.held → IsSynced a Control → IsSynced mid Control → IsPossibleNow mid → Watches rule a mid s v view before now slot slot' unswept unswept' x → Watches rule a b s v view before now slot slot' unswept unswept' x
+watches_along rule a mid b past goes lends s v view before now slot slot' unswept unswept' x calm stays there kept kept_mid possible_mid w = record {
   phase = w.phase;
   phase_behind = w.phase_behind;
   answered = w.answered;
@@ -528,6 +559,9 @@ watches_along rule a mid b past goes lends s v view before now slot slot' unswep
   judged = λ reaped ended. some_more before _ _ (λ c is. judged_later mid b goes w.answered w.behind s.phase w.stands.standing.records c.job reaped x w.by_now is) (w.judged reaped ended);
   checked = w.checked;
   looked = w.looked;
+  same = w.same;
+  begun = w.begun;
+  few = w.few;
   lent = w.lent;
   lent_behind = λ held. some_more now _ _ (λ c is. goes.lending w.answered c.job.attempt w.by_now ∙ is) (w.lent_behind held);
   swept = λ has. some_more before _ _ (λ c is. (is.0, settled_later mid b goes w.answered c.job.attempt is.0 w.by_now is.1)) (w.swept has);
@@ -537,6 +571,10 @@ watches_along rule a mid b past goes lends s v view before now slot slot' unswep
   settles = λ order. settles_on a mid b past goes (w.settles order) (settles_none mid b lends);
   stays = λ order t before high. stays_later mid b goes (settles_none mid b lends) t w.answered high w.by_now (w.stays order t before high);
   clear = λ cleared swept none. clear_behind slot' w.behind (mid.lending_at w.answered) (b.lending_at w.answered) (λ attempt. goes.lending w.answered attempt w.by_now) (w.clear cleared swept none);
+  stays_live = λ t late le crashed possible. elim (cases_lt mid.moment t) [
+    | inl behind ↦ record { control = there.control; index = there.index; held = kept_mid (crashed Control) ((stays Control).left (λ x. x) t (crashed Control) behind le (possible Control)) ∙ there.held; live = there.live }
+    | inr soon ↦ w.stays_live t late soon crashed (possible_before mid b goes t crashed soon possible)
+  ];
   job = w.job;
   job_behind = w.job_behind;
   space = λ order none t late le image possible. w.space order none t late le image (possible_before mid b goes t image (let now = w.by_now in omega (arith, le, now)) possible);
@@ -630,9 +668,9 @@ module _ (a mid : Told) (s s' : Session) (r : Repository) (v : View) (here : IsW
 
   pub watches_of : (rule : Rule) → KeepsSaid a mid → IsPossibleNow a → IsPossibleNow mid → Heard → Concludes → (IsHeldIn (state_in s' q u) → (reaped : Reaped) → s'.met.child ≢ Child.Ended reaped)
       → IsJudgedIn a mid s s' r v difference → IsSettledIn mid s s' reply → ClearIn a mid s s' line reply → KeepsSpaceIn a mid s' → (NothingPending a → NothingPending mid) → (NothingPending a → KeepsSlots a mid) → (NothingPending a → Settles a mid) → (IsLineOf Command.Look line → IsBoundedIn records s.store.held.collection reply) → IsViewIn r v line reply u → PlacedIn rule (image_records here.holds) s.store.held.slot s.store.held.unswept s'.store.held.slot (state_in s r v) v line reply
-      → StartsAt s.store.held.slot s'.store.held.slot x → (HasStarted (Ok reply) → IsSomeAnd s'.store.held.collection (λ c. jobs ≡ c.job ∷ [])) → (¬ HasStarted (Ok reply) → jobs ≡ []) → HearsAt s.store.held.slot x → GoesOnBy jobs s.store.held.collection s'.store.held.collection → IsSlicedIn s.store.held.collection s'.store.held.collection reply
+      → StartsAt s.store.held.slot s'.store.held.slot x → (HasStarted (Ok reply) → IsSomeAnd s'.store.held.collection (λ c. jobs ≡ c.job ∷ [])) → (¬ HasStarted (Ok reply) → jobs ≡ []) → HearsAt s.store.held.slot x → GoesOnBy s'.met.child jobs s.store.held.collection s'.store.held.collection → (IsLineOf Command.Look line → looked_in s'.store.held.collection ≤ looked_in s.store.held.collection + looks) → IsSlicedIn s.store.held.collection s'.store.held.collection reply
       → Watches rule a mid (state_in s r v) v u s.store.held.collection s'.store.held.collection s.store.held.slot s'.store.held.slot s.store.held.unswept s'.store.held.unswept x
-  watches_of rule still possible possible_mid heard concluded unheard judged settled clear space calm slots settles bounded seen placed starts started unstarted hears goes_on sliced = record {
+  watches_of rule still possible possible_mid heard concluded unheard judged settled clear space calm slots settles bounded seen placed starts started unstarted hears goes_on few sliced = record {
     phase = refl;
     phase_behind = refl;
     answered = mid.moment;
@@ -654,8 +692,11 @@ module _ (a mid : Told) (s s' : Session) (r : Repository) (v : View) (here : IsW
     aims = λ has job is. aimed mid s'.store.held.slot working.holds.stands.standing.records q s'.store.held.collection jobs working.holds.collects (started has) job is;
     hears = hears;
     judged = λ reaped ended. by s.store.held.collection refl reaped ended (heard reaped (ap (λ (m : Met). m.child) (sym met_is) ∙ ended));
-    checked = λ left is. checked_to mid s'.store.held q working.holds s.store.held.collection jobs left goes_on (unstarted (λ has. subst (λ (answer : Reply). HasStarted (Ok answer)) is has)) (subst (IsSlicedIn s.store.held.collection s'.store.held.collection) is sliced);
-    looked = λ commit exit runs none. looked_on jobs s.store.held.collection s'.store.held.collection commit exit goes_on runs none;
+    checked = λ left is. checked_to mid s'.store.held q working.holds s.store.held.collection s'.met.child jobs left goes_on (unstarted (λ has. subst (λ (answer : Reply). HasStarted (Ok answer)) is has)) (subst (IsSlicedIn s.store.held.collection s'.store.held.collection) is sliced);
+    looked = λ commit exit runs none. looked_on s'.met.child jobs s.store.held.collection s'.store.held.collection commit exit goes_on runs none;
+    same = λ unheard commit exit runs none. looked_same s'.met.child jobs s.store.held.collection s'.store.held.collection commit exit goes_on (λ reaped ended. unheard reaped (ap (λ (m : Met). m.child) met_is ∙ ended)) runs none;
+    begun = looked_none s'.met.child jobs s.store.held.collection s'.store.held.collection goes_on;
+    few = few;
     lent = λ held. lent_in a s.store.held r here.holds (state_in s r v) refl held;
     lent_behind = λ held. lent_in mid s'.store.held q working.holds (state_in s' q u) refl held;
     swept = λ swept. clear.settled swept;
@@ -665,6 +706,7 @@ module _ (a mid : Told) (s s' : Session) (r : Repository) (v : View) (here : IsW
     settles = settles;
     stays = λ order t before high. stays_behind a mid past (settles order) t high before;
     clear = λ cleared swept none. clear.all swept (ap (λ (m : Met). m.left) (sym met_is) ∙ none) cleared;
+    stays_live = λ t late le. absurd (omega (arith, late, le));
     job = jobs_in s.store.held r here.holds.tables;
     job_behind = jobs_in s'.store.held q working.holds.tables;
     space = λ order none t late le image possible_then. space order (λ reaped ended. none reaped (ap (λ (m : Met). m.child) met_is ∙ ended)) s.store.held.slot (held_has s.store.held r a here.holds) t late le image possible_then;

@@ -1,4 +1,5 @@
 pub mod LineLemmas
+pub mod LineFiles
 pub mod LivePair
 pub mod SameFiles
 mod Settling

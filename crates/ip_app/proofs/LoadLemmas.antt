@@ -14,7 +14,7 @@ use Rattle.ip_ground.specs.Told.{said, SyncsOnly, Only}
 use Rattle.ip_ground.proofs.Spans.{said_now}
 use Rattle.ip_image.specs.declared.counts.TurnCounts.{TurnCounts}
 use Rattle.ip_image.specs.Standing.{StandsFor}
-use Rattle.ip_image.specs.Pending.{NothingPending}
+use Rattle.ip_image.specs.Pending.{HasLive, NothingPending}
 use Rattle.ip_image.proofs.DamageLaws.{not_damaged}
 use Rattle.ip_image.proofs.OneRepository.{one_repository}
 use Rattle.ip_spec.specs.Path.{Bytes}
@@ -41,6 +41,7 @@ use Rattle.ip_app.specs.Exchanges.{Exchange, answer_of, lines_in, texts_in}
 use Rattle.ip_app.specs.Exchanging.{is_cut_short, CountsServing, Exchanged, Replied, CutShort, CutsShort}
 use Rattle.ip_app.specs.Loading.{load_script, replies_in, load_text, LoadHeadline, LoadRow, Loads, LoadsWhereAllIsWell}
 use Rattle.ip_app.specs.Loaded.{Loaded, Summed, FinishesLoad}
+use Rattle.ip_app.specs.Files.{SlotsSince}
 use Rattle.ip_app.specs.Outside.{Outside, Tells, Knows, GoesOn, IsBound, IsUnasked}
 use Rattle.ip_app.specs.Happening.{HappensCut}
 use Rattle.ip_app.specs.Judged.{IsHeldIn, Watches, IsWatchedTo, WatchedIn, texts_by, says_nothing}
@@ -50,11 +51,12 @@ use Rattle.ip_app.specs.Serving.{CountsOf}
 use Rattle.ip_app.proofs.Cleared.{clear_synced, cleared_at}
 use Rattle.ip_app.proofs.Counting.{removals_bound, removals_on, serving_of, serving_on, bound_to, bound_counts, cut_counts, IsNoDamage, no_damage}
 use Rattle.ip_app.proofs.Judging.{none_said, watched_none, watched_unbegun, watched_next, watched_cut, watched_all}
-use Rattle.ip_app.proofs.Unwritten.{none_on, not_none, only_one, damage_short}
+use Rattle.ip_app.proofs.Unwritten.{none_on, none_synced, not_none, only_one, damage_short}
 use Rattle.ip_app.proofs.LivePair.{live_on, owns_pending}
 use Rattle.ip_app.proofs.Moments.{headline_none}
 use Rattle.ip_app.proofs.LoadMoments.{quiet_first, quiet_more, headline_quiet, headline_said}
-use Rattle.ip_app.proofs.RanOn.{append_nil, after_more, ran_more, ran_first, trace_more, told_before, let_go_as, LetsGoAs, goes_on_gone, notes_of, asks_of, notes_none, asks_none, happen_all, happen_cut, live_at, keeps_unchanged}
+use Rattle.ip_app.proofs.LineFiles.{reads_synced, slots_first}
+use Rattle.ip_app.proofs.RanOn.{lends_more, lends_at, slots_at, slots_run, append_nil, after_more, ran_more, ran_first, trace_more, told_before, let_go_as, LetsGoAs, goes_on_gone, notes_of, asks_of, notes_none, asks_none, happen_all, happen_cut, live_at, keeps_unchanged}
 use Rattle.ip_app.proofs.RunLemmas.{stands_open}
 use Rattle.ip_app.proofs.SameFiles.{stands_after}
 
@@ -90,6 +92,7 @@ loaded_first rule decisive by_rule seed old now counts s summary r v none_known 
   opened_at = λ is. (opening (known.2 is).0.0).since;
   over = λ is. over (known.2 is).0;
   quiet = λ is order. let told = (known.2 is).0.0 in quiet_first _ old.told now.told (opened r) (headline_none old.told now.told (f told) (opening told) r (began (known.2 is).0) order);
+  slots = λ is order. let told = (known.2 is).0.0 in slots_first old.told now.told (opening told) s.store.held.slot (held_has s.store.held r now.told (working (known.2 is).0).holds);
 }
 
 module _ (rule : Rule) (decisive : Bool) (seed state number : ℕ) (old mid : Outside) (counts : TurnCounts) (s : Session) (summary : Summary) (h : Loaded rule decisive seed state number old mid counts s summary) where
@@ -133,6 +136,7 @@ module _ (rule : Rule) (decisive : Bool) (seed state number : ℕ) (old mid : Ou
         over = λ is. let was = h.over is in let later = (goes.files is).goes.later in omega (arith, was, later);
         quiet = λ is order. quiet_more (h.opened_at is) old.told mid.told new.told (opened h.first) h.exchanges x (h.quiet is order) (goes.files is).goes (h.over is) (h.said is) h.repository (ap (λ (state : State). state.repository) (h.ran.now_at is))
             t.after (ap (λ (state : State). state.repository) (sym (t.exchanged.now_at is))) (t.quiet is) (t.atomic is (h.ran.nothing_pending is order));
+        slots = λ is order. slots_run rule decisive h.known h.exchanges h.first h.repository h.view h.slot old mid new counts counts' s x h.ran goes is (h.opened_at is) (h.over is) (h.slots is order) ((t.exchanged.watches is).slots (h.ran.nothing_pending is order));
       })
     where
       one_longer : (xs : List Exchange) (x : Exchange) → length (xs ++ x ∷ []) ≡ length xs + 1
@@ -154,9 +158,9 @@ module _ (rule : Rule) (decisive : Bool) (seed state number : ℕ) (old mid : Ou
       ap (λ (k : ℕ). lines_from seed 1 k ++ codes "stat" ∷ []) n ∙ ap (λ (ls : List Bytes). ls ++ codes "stat" ∷ []) (h.lines_then 0 ∙ append_nil (lines_in h.exchanges))
 
   -- the files stood for one repository at most when the run began
-  of_opened : (behind : Type 0) (since : ℕ) (last : Outside) (xs : List Exchange) (text : Bytes) → StandsFor old.told.held h.first → (r : Repository) → StandsFor old.told.held r → since ≤ last.told.moment → LoadHeadline since old.told last.told (opened h.first) (map answer_of xs) text
-      → (since : ℕ) × (behind → since ≤ last.told.moment) × LoadHeadline since old.told last.told (opened r) (map answer_of xs) text
-  of_opened behind since last xs text began r stands reached run = (since, λ b. reached, subst (λ (q : Repository). LoadHeadline since old.told last.told (opened q) (map answer_of xs) text) (one_repository old.told.held h.first r began stands) run)
+  of_opened : (behind : Type 0) (since : ℕ) (last : Outside) (xs : List Exchange) (text : Bytes) → StandsFor old.told.held h.first → (r : Repository) → StandsFor old.told.held r → since ≤ last.told.moment → LoadHeadline since old.told last.told (opened h.first) (map answer_of xs) text → ((slot : Slot) → HasLive slot old.told.held → SlotsSince since slot (length xs) last.told)
+      → (since : ℕ) × (behind → since ≤ last.told.moment) × LoadHeadline since old.told last.told (opened r) (map answer_of xs) text × ((slot : Slot) → HasLive slot old.told.held → SlotsSince since slot (length xs) last.told)
+  of_opened behind since last xs text began r stands reached run slots = (since, λ b. reached, subst (λ (q : Repository). LoadHeadline since old.told last.told (opened q) (map answer_of xs) text) (one_repository old.told.held h.first r began stands) run, slots)
 
   known_so : IsTrue old.ground_tells → IsTrue decisive → NothingPending old.told → IsTrue h.known
   known_so b d order = h.ran.trace.known_so ((b, owns_pending old.told order), d)
@@ -199,11 +203,17 @@ module _ (rule : Rule) (decisive : Bool) (seed state number : ℕ) (old mid : Ou
             any_moment = λ b d r stands order. let is = known_so b d order in of_opened (IsBehindOpening s' xs) (h.opened_at is) new xs (load_text count xs) (h.ran.trace.began (h.ran.trace.tells is)) r stands
                 (let was = h.over is in let later = (u.begun.files is).goes.later in omega (arith, was, later))
                 (headline_quiet (h.opened_at is) old.told new.told first (map answer_of xs) (load_text count xs) (quiet_more (h.opened_at is) old.told mid.told new.told first h.exchanges x (h.quiet is order) (u.begun.files is).goes (h.over is) (h.said is)
-                h.repository (ap (λ (state : State). state.repository) (h.ran.now_at is)) x.after.repository refl (u.quiet is) (u.atomic is (h.ran.nothing_pending is order))));
+                h.repository (ap (λ (state : State). state.repository) (h.ran.now_at is)) x.after.repository refl (u.quiet is) (u.atomic is (h.ran.nothing_pending is order))))
+                (slots_at rule decisive h.known h.exchanges h.first h.repository h.view h.slot old mid counts s h.ran is (h.opened_at is) (length xs) new.told
+                (slots_run rule decisive h.known h.exchanges h.first h.repository h.view h.slot old mid new counts counts' s x h.ran u.begun is (h.opened_at is) (h.over is) (h.slots is order) (u.slots is (h.ran.nothing_pending is order))));
             again = λ b d may. let is = known_so b d may.nothing_pending in u.again is (h.ran.nothing_pending is may.nothing_pending);
             stands = λ b whole began. absurd (cc (cut, whole));
             clear = λ b whole. absurd (cc (cut, whole));
             files = λ b. trace.files (h.ran.trace.known_so b);
+            keeps = λ b. trace.keeps (h.ran.trace.known_so b);
+            leaves = λ b whole. absurd (cc (cut, whole));
+            lends = λ b. let is = h.ran.trace.known_so b in lends_at rule decisive h.known h.exchanges h.first h.repository h.view h.slot old mid counts s h.ran is new.told
+                (lends_more rule decisive h.known h.exchanges h.first h.repository h.view h.slot old mid new counts counts' s x h.ran u.begun is);
           };
           notes = notes_of rule decisive h.known xs h.first s' old new counts' trace (serving_on s' old.counts mid.counts new.counts h.no_fault (cut_counts s' mid.counts new.counts u.counted)) spawned held spawns gone;
           row = row spawned held spawns;
@@ -260,7 +270,7 @@ module _ (rule : Rule) (decisive : Bool) (seed state number : ℕ) (old mid : Ou
             begun = ([], script_end count all ∙ (ap (λ (l : Bytes). lines_in h.exchanges ++ l ∷ []) (sym u.line_is) ∙ (sym (map-append (λ x. x.line) h.exchanges (x ∷ [])) ∙ sym (append_nil (lines_in xs)))), λ behind whole. refl);
             run = λ b. ran.trace.run (h.ran.trace.known_so b);
             watched = λ b start live. let is = h.ran.trace.known_so b in let w = u.exchanged.watches is in subst (λ (t : Slot). WatchedIn rule says_nothing false (is_cut_short s') old.told new.told t first xs) (live_at rule decisive h.known h.exchanges h.first h.repository h.view h.slot old mid counts s h.ran is start live)
-                (watched_all rule says_nothing false (is_cut_short s') old.told new.told h.slot first xs session.store.held.collection session.store.held.slot session.store.held.unswept u.view (watched_on new counts' session u.after u.view x u.exchanged is)
+                (watched_all rule says_nothing false (is_cut_short s') cut old.told new.told h.slot first xs session.store.held.collection session.store.held.slot session.store.held.unswept u.view (watched_on new counts' session u.after u.view x u.exchanged is)
                 (held_has session.store.held u.after new.told (u.exchanged.working is).holds) w.answered w.by_now (λ _. w.unsaid ∙ (h.said is ∙ (sym (append_nil (said old.told)) ∙ ap (λ (t : Bytes). said old.told ++ t) (sym (none_said xs)))))
                 (λ held. w.lent_behind (subst IsHeldIn (after_more first h.exchanges x) held)));
             said = λ b. let is = h.ran.trace.known_so b in let p = u.part is in record {
@@ -276,18 +286,23 @@ module _ (rule : Rule) (decisive : Bool) (seed state number : ℕ) (old mid : Ou
             any_moment = λ b d r stands order. let is = known_so b d order in of_opened (IsBehindOpening s' xs) (h.opened_at is) new xs (load_text count xs) (h.ran.trace.began (h.ran.trace.tells is)) r stands
                 (let was = h.over is in let later = (goes.files is).goes.later in omega (arith, was, later))
                 (subst (λ (t : Bytes). LoadHeadline (h.opened_at is) old.told new.told first (map answer_of xs) t) (sym text) (headline_said (h.opened_at is) old.told mid.told new.told first h.exchanges x (h.quiet is order) (goes.files is).goes (h.over is) (h.said is)
-                h.repository (ap (λ (state : State). state.repository) (h.ran.now_at is)) u.after (ap (λ (state : State). state.repository) (sym (u.exchanged.now_at is))) _ (u.turning is (h.ran.nothing_pending is order))));
+                h.repository (ap (λ (state : State). state.repository) (h.ran.now_at is)) u.after (ap (λ (state : State). state.repository) (sym (u.exchanged.now_at is))) _ (u.turning is (h.ran.nothing_pending is order))))
+                (slots_at rule decisive h.known h.exchanges h.first h.repository h.view h.slot old mid counts s h.ran is (h.opened_at is) (length xs) new.told
+                (slots_run rule decisive h.known h.exchanges h.first h.repository h.view h.slot old mid new counts counts' s x h.ran goes is (h.opened_at is) (h.over is) (h.slots is order) ((u.exchanged.watches is).slots (h.ran.nothing_pending is order))));
             again = λ b d may. let is = known_so b d may.nothing_pending in record { repository = u.after; stands = (u.exchanged.working is).holds.stands; nothing_pending = ran.nothing_pending is may.nothing_pending };
             stands = λ b whole began. let is = h.ran.trace.known_so b in subst (λ (state : State). StandsFor new.told.held state.repository) (ran.now_at is) (u.exchanged.working is).holds.stands;
             clear = λ b whole clear. let is = h.ran.trace.known_so b in cleared_at new.told session.store.held (held_has session.store.held u.after new.told (u.exchanged.working is).holds) (ran.clear is clear);
             files = λ b. ran.trace.files (h.ran.trace.known_so b);
+            keeps = λ b. ran.trace.keeps (h.ran.trace.known_so b);
+            leaves = λ b whole. ran.leaves (h.ran.trace.known_so b);
+            lends = λ b. let is = h.ran.trace.known_so b in lends_at rule decisive h.known h.exchanges h.first h.repository h.view h.slot old mid counts s h.ran is new.told (ran.lends is);
           };
           notes = notes_of rule decisive h.known xs h.first s' old new counts' ran.trace (serving_on s' old.counts mid.counts new.counts h.no_fault u.counted) spawned held spawns gone;
           row = row spawned held spawns;
           unopened = λ is none. absurd (not_none h.exchanges x none);
           unwritten = λ told damage few. absurd (cc (damage_short s' damage, cut));
         };
-        children = asks_of rule decisive h.known xs h.first (is_cut_short s') old new counts' ran.trace (happen_all (is_cut_short s') xs ran.phases) spawned held spawns gone;
+        children = asks_of rule decisive h.known xs h.first (is_cut_short s') old new counts' ran.trace (happen_all (is_cut_short s') cut xs ran.phases) spawned held spawns gone;
       }
 
   pub loads_said : (IsTrue decisive → IsDecisive rule) → (count : ℕ) (s' : Status) (new : Outside) (counts' : TurnCounts) (session : Session) → FinishesLoad rule s' h.known mid new (summary_of count (replies_in h.exchanges)) counts counts' s session h.repository h.view → number ≡ count → new.left ≡ mid.left
@@ -330,11 +345,14 @@ loads_none rule decisive seed count old new s g f opening left turns unasked rea
           said = λ b. record { part = []; rest = load_text count []; text_is = refl; said_is = quiet b.0.0 ∙ sym (append_nil (said old.told)); whole = λ done. absurd (undone done); none = λ _ _. refl };
         };
         reopens = record {
-          any_moment = λ b d r stands order. ((opening b).since, λ behind. absurd (unopened behind), headline_quiet (opening b).since old.told new.told (opened r) [] (load_text count []) (quiet_first (opening b).since old.told new.told (opened r) (headline_none old.told new.told (f b) (opening b) r stands order)));
+          any_moment = λ b d r stands order. ((opening b).since, λ behind. absurd (unopened behind), headline_quiet (opening b).since old.told new.told (opened r) [] (load_text count []) (quiet_first (opening b).since old.told new.told (opened r) (headline_none old.told new.told (f b) (opening b) r stands order)), λ slot live. slots_first old.told new.told (opening b) slot (live_on old.told new.told (f b).files slot live));
           again = λ b d may. record { repository = may.repository; stands = stands_after old.told new.told (f b) (owns_pending old.told may.nothing_pending) may.repository may.stands; nothing_pending = (opening b).nothing_pending may.nothing_pending };
           stands = λ b whole h. stands_after old.told new.told (f b.0.0) b.0.1 first.repository h;
           clear = λ b whole. clear_synced old.told new.told (f b.0.0);
           files = λ b. keeps_unchanged old.told new.told (f b.0.0);
+          keeps = λ b all. reads_synced old.told new.told (f b.0.0);
+          leaves = λ b whole all. none_synced old.told new.told (f b.0.0);
+          lends = λ b slot live n less. (f b.0.0).changes.lending n;
         };
         notes = notes_none s old new turns reads unopened bound (serving_of s old.counts new.counts sound counted);
         row = row;

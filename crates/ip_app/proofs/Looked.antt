@@ -1,12 +1,13 @@
 -- How far a check is, by what a store holds.
---     looked_on      what was looked at never falls while a collection goes on
+--     looked_on      what was looked at never falls while a collection goes on.      looked_same      it stays where its child was not heard to have ended.      looked_none      nothing was of a child that was started
 --     checked_to      behind a look that is not through
-use Rattle.std.proofs.Common.{◌≡◌, ◌⊎◌, inl, inr, ℕ, ◌+◌, ◌*◌, ◌<◌, ◌≤◌, List, [], ◌∷◌, length, refl, sym, ap, ◌∙◌, subst, arith, Option, Some, None}
+use Rattle.std.proofs.Common.{◌≡◌, ◌≢◌, ◌⊎◌, inl, inr, ℕ, ◌+◌, ◌*◌, ◌<◌, ◌≤◌, List, [], ◌∷◌, length, refl, sym, ap, ◌∙◌, subst, arith, Option, Some, None}
 use Rattle.std.specs.Prelude.{IfSome, IsSome, IsSomeAnd, is_some, count_by}
 use Rattle.std.proofs.lemmas.Bool.{false≢true}
 use Rattle.ip_base.specs.declared.exit.Reaped.{Reaped}
 use Rattle.ip_ground.specs.Told.{Told}
 use Rattle.ip_spawn.specs.declared.job.Job.{Job}
+use Rattle.ip_spec.specs.declared.met.Child.{Child}
 use Rattle.ip_spec.specs.declared.record.Record.{Record}
 use Rattle.ip_spec.specs.declared.reply.Reply.{Reply}
 use Rattle.ip_spec.specs.Machine.{Phase}
@@ -33,14 +34,25 @@ use Rattle.ip_held.specs.Held.{Holds}
 use Rattle.ip_held.proofs.Recovering.{held_has}
 use Rattle.ip_collects.specs.Finishing.{looked_at, looked_of}
 use Rattle.ip_collects.proofs.Until.{standing_until}
-use Rattle.ip_session.specs.Asking.{GoesOnBy, IsSlicedIn, looks}
-use Rattle.ip_app.specs.Judged.{looked_in, IsCheckedTo}
+use Rattle.ip_session.specs.Asking.{GoesOnBy, IsSlicedIn, looked_in, looks}
+use Rattle.ip_app.specs.Judged.{IsCheckedTo}
 
-pub looked_on : (jobs : List Job) (before now : Option Collection) (commit : ℕ) (exit : Option Reaped) → GoesOnBy jobs before now → phase_of now ≡ Phase.Collecting commit exit → jobs ≡ [] → looked_in before ≤ looked_in now
-looked_on jobs before None commit exit goes runs none = absurd (cc runs)
-looked_on jobs before (Some c) commit exit (inl started) runs none = absurd (cc (started, none))
-looked_on jobs None (Some c) commit exit (inr (nothing, same)) runs none = absurd same
-looked_on jobs (Some d) (Some c) commit exit (inr (nothing, same)) runs none = same.3
+pub looked_on : (child : Child) (jobs : List Job) (before now : Option Collection) (commit : ℕ) (exit : Option Reaped) → GoesOnBy child jobs before now → phase_of now ≡ Phase.Collecting commit exit → jobs ≡ [] → looked_in before ≤ looked_in now
+looked_on child jobs before None commit exit goes runs none = absurd (cc runs)
+looked_on child jobs before (Some c) commit exit (inl started) runs none = absurd (cc (started.0, none))
+looked_on child jobs None (Some c) commit exit (inr (nothing, same)) runs none = absurd same
+looked_on child jobs (Some d) (Some c) commit exit (inr (nothing, same)) runs none = same.3.0
+
+pub looked_same : (child : Child) (jobs : List Job) (before now : Option Collection) (commit : ℕ) (exit : Option Reaped) → GoesOnBy child jobs before now → ((reaped : Reaped) → child ≢ Child.Ended reaped) → phase_of now ≡ Phase.Collecting commit exit → jobs ≡ [] → looked_in now ≡ looked_in before
+looked_same child jobs before None commit exit goes unheard runs none = absurd (cc runs)
+looked_same child jobs before (Some c) commit exit (inl started) unheard runs none = absurd (cc (started.0, none))
+looked_same child jobs None (Some c) commit exit (inr (nothing, same)) unheard runs none = absurd same
+looked_same child jobs (Some d) (Some c) commit exit (inr (nothing, same)) unheard runs none = same.3.1 unheard
+
+pub looked_none : (child : Child) (jobs : List Job) (before now : Option Collection) → GoesOnBy child jobs before now → jobs ≢ [] → looked_in now ≡ 0
+looked_none child jobs before None goes some = refl
+looked_none child jobs before (Some c) (inl started) some = ap looked_of started.1
+looked_none child jobs before (Some c) (inr ran) some = absurd (some ran.0)
 
 -- where records lie end to end one begins at each place but the last
 starts : (records : ℕ → Option Record) (from to : ℕ) → RunsTo records from to → from < to → IsSome (records from)
@@ -120,10 +132,10 @@ module _ (told : Told) (store : Held) (r : Repository) (holds : Holds store told
   pub checked_by : (before left : ℕ) → looked_by check ≡ before + looks → left + check.keep.next ≡ d.job.end → IsCheckedTo early d.job before (looked_by check) left
   checked_by before left more is = record { more = sym more; few = few; next = check.keep.next; rest = is; first = first; all = through }
 
-pub checked_to : (told : Told) (store : Held) (r : Repository) (holds : Holds store told r) (before : Option Collection) (jobs : List Job) (left : ℕ) → GoesOnBy jobs before store.collection → jobs ≡ [] → IsSlicedIn before store.collection (Reply.Checking left)
+pub checked_to : (told : Told) (store : Held) (r : Repository) (holds : Holds store told r) (before : Option Collection) (child : Child) (jobs : List Job) (left : ℕ) → GoesOnBy child jobs before store.collection → jobs ≡ [] → IsSlicedIn before store.collection (Reply.Checking left)
     → IsSomeAnd before (λ c. IsCheckedTo (until c.job.end holds.stands.standing.records) c.job (looked_in before) (looked_in store.collection) left)
-checked_to told store r holds None jobs left goes none sliced = absurd sliced
-checked_to told store r holds (Some c) jobs left goes none sliced = by store.collection refl goes sliced
+checked_to told store r holds None child jobs left goes none sliced = absurd sliced
+checked_to told store r holds (Some c) child jobs left goes none sliced = by store.collection refl goes sliced
   where
     records : Records
     records = holds.stands.standing.records
@@ -133,7 +145,7 @@ checked_to told store r holds (Some c) jobs left goes none sliced = by store.col
     by_check d runs job (Some check) kept is =
         subst (λ (j : Job). IsCheckedTo (until j.end records) j (looked_at c) (looked_by check) left) job (checked_by told store r holds d runs check kept (looked_at c) left is.1 (is.2 ∙ ap (λ (j : Job). j.end) (sym job)))
 
-    by : (o : Option Collection) → store.collection ≡ o → GoesOnBy jobs (Some c) o → IsSlicedIn (Some c) o (Reply.Checking left) → IsCheckedTo (until c.job.end records) c.job (looked_at c) (looked_in o) left
+    by : (o : Option Collection) → store.collection ≡ o → GoesOnBy child jobs (Some c) o → IsSlicedIn (Some c) o (Reply.Checking left) → IsCheckedTo (until c.job.end records) c.job (looked_at c) (looked_in o) left
     by None runs goes is = absurd is
-    by (Some d) runs (inl started) is = absurd (cc (started, none))
+    by (Some d) runs (inl started) is = absurd (cc (started.0, none))
     by (Some d) runs (inr (nothing, same)) is = by_check d runs same.1 d.check refl is

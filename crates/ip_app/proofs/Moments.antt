@@ -75,6 +75,7 @@ pub opening_none : (a b : Told) → ChangesOnly NoFile a b → RecoversOnceOpen 
 opening_none a b only = record {
   since = b.moment + 1;
   begins = (let later = only.goes.later in omega (arith, later));
+  kept = λ t late le. absurd (omega (arith, late, le));
   recovers = λ r stands order t late le. absurd (omega (arith, late, le));
   nothing_pending = pending_passes a b only.goes (λ file. only.others file (λ none. none)) only.lending;
 }
@@ -83,6 +84,7 @@ abbrev pub opening_after : (a b c : Told) → ChangesOnly NoFile a b → Recover
 opening_after a b c only opening = record {
   since = opening.since;
   begins = (let later = only.goes.later in let begins = opening.begins in omega (arith, later, begins));
+  kept = opening.kept;
   recovers = λ r stands order. opening.recovers r (stands_after a b (syncs_none a b (Only Control) only) (owns_pending a order) r stands) (order_on order);
   nothing_pending = λ order. opening.nothing_pending (order_on order);
 }

@@ -1,17 +1,17 @@
 -- A run of the machine that goes on by an exchange, and how it ends.
 --     append_nil, after_more, run_more      of lists of exchanges
 --     told_before, goes_on_then, keeps_unchanged, told_none      of what is told before and behind
---     trace_more, ran_more      one exchange more.      ran_first      none yet.      said_along      a reply is said behind it
+--     trace_more, lends_more, ran_more      one exchange more.      ran_first      none yet.      said_along      a reply is said behind it
 --     let_go_as, LetsGoAs, goes_on_gone      the child that is held is let go.      notes_of, asks_of      what was noted, and asked of the spawner.      notes_none, asks_none      where no command was begun
---     happen_all, happen_cut      what was met in all, or all but one that was cut short.      live_at      the slot is the one that was live
-use Rattle.std.proofs.Common.{true, ◌≡◌, inl, ℕ, ◌≤◌, Bool, List, [], ◌∷◌, ◌++◌, length, refl, sym, ap, ap₂, ◌∙◌, subst, arith, append_assoc, IsTrue, Option, None, Some}
+--     happen_all, happen_cut      what was met in all, or all but one that was cut short.      live_at, lends_at, slots_at      the slot is the one that was live.      slots_run      which slots are live behind one exchange more
+use Rattle.std.proofs.Common.{true, false, ◌≡◌, inl, ℕ, ◌<◌, ◌≤◌, Bool, List, [], ◌∷◌, ◌++◌, length, refl, sym, ap, ap₂, ◌∙◌, subst, arith, append_assoc, IsTrue, Option, None, Some}
 use Rattle.std.proofs.lemmas.List.{map-append}
 use Rattle.ip_ground.specs.declared.names.FileName.TheVariants.{Control}
 use Rattle.ip_base.specs.declared.exit.Reaped.{Reaped}
 use Rattle.ip_spawn.specs.Children as spawn
 use Rattle.ip_spawn.specs.declared.spawner.SpawnCounts.{SpawnCounts}
 use Rattle.ip_ground.specs.Counts.{Noted}
-use Rattle.ip_ground.specs.Told.{Told, SyncsOnly, Only}
+use Rattle.ip_ground.specs.Told.{Told, KeepsCustody, SyncsOnly, Only}
 use Rattle.ip_ground.proofs.Rising.{none_falls_on}
 use Rattle.ip_image.specs.declared.counts.TurnCounts.{TurnCounts}
 use Rattle.ip_image.specs.declared.slot.Slot.{Slot}
@@ -29,6 +29,7 @@ use Rattle.ip_spec.specs.Script.{LineStep}
 use Rattle.ip_opens.specs.Opening.{RecoversOnceOpen}
 use Rattle.ip_held.specs.Clear.{IsCleared, IsClearAt}
 use Rattle.ip_held.specs.Collecting.{phase_of, child_of}
+use Rattle.ip_held.specs.Slots.{KeepsSlots}
 use Rattle.ip_held.specs.Sweeping.{KeepsFiles}
 use Rattle.ip_held.proofs.KeptFiles.{keeps_on, keeps_store}
 use Rattle.ip_held.proofs.Recovering.{held_has}
@@ -37,6 +38,7 @@ use Rattle.ip_session.specs.Session.{IsServing, IsWorking, state_in}
 use Rattle.ip_app.specs.declared.turn_log.Turn.{Turn}
 use Rattle.ip_app.specs.declared.statuses.Status.{Status}
 use Rattle.ip_app.specs.Exchanges.{Exchange, conditions, Run, after_all, turns_in}
+use Rattle.ip_app.specs.Files.{OnlyReads, LeavesFiles, SlotsSince}
 use Rattle.ip_app.specs.Happening.{Happens, HappensCut, AllHappen, HappenIn, phase_after, started_in, ends_in}
 use Rattle.ip_session.specs.Asking.{LetsGo, starts_in}
 use Rattle.ip_app.specs.Turns.{turn_counts, AreCounts, Follow}
@@ -44,7 +46,8 @@ use Rattle.ip_app.specs.Outside.{Outside, Tells, Knows, GoesOn, IsBound, IsUnask
 use Rattle.ip_app.specs.Run.{IsBehindOpening, Notes, AsksChildren}
 use Rattle.ip_app.proofs.Counting.{bound_to, spawns_on, still_at, follow_more}
 use Rattle.ip_app.proofs.Happened.{later_gone, happen_more, phase_all, told_with, spawned_more}
-use Rattle.ip_app.proofs.Unwritten.{none_synced, not_none}
+use Rattle.ip_app.proofs.LineFiles.{slots_next, reads_synced, reads_on, all_front, all_last, drawn_on, line_rises, none_started, risen_line, risen_first}
+use Rattle.ip_app.proofs.Unwritten.{none_on, none_synced, not_none}
 use Rattle.ip_app.proofs.LivePair.{live_before}
 use Rattle.ip_app.specs.Exchanging.{OnlyRemovals, CountsServing, Begun, Exchanged, Trace, Ran}
 
@@ -98,6 +101,7 @@ trace_more rule decisive known xs first old mid new counts counts' state x h no_
   follow = follow;
   reads = t.reads ∙ h.reads;
   bound = t.bound ∙ h.bound;
+  keeps = λ g all. reads_on old.told mid.told new.told (h.keeps g (all_front OnlyReads xs (x ∷ []) all)) (t.keeps g (all_last OnlyReads xs x all));
 }
   where
     follow : Follow (turn_counts old.counts old.spawns) (turns_in (xs ++ x ∷ [])) counts'
@@ -106,6 +110,12 @@ trace_more rule decisive known xs first old mid new counts counts' state x h no_
         subst (λ (ts : List Turn). Follow start ts counts') (sym (map-append (λ x. x.turn) xs (x ∷ [])))
         (subst (λ (e : TurnCounts). Follow start (turns_in xs ++ x.turn ∷ []) e) t.ends_at
         (follow_more start counts (turns_in xs) x.turn (still_at old.counts mid.counts old.spawns mid.spawns counts h.counts_now no_fault) h.follow t.begins_at t.rises))
+
+-- an attempt that had been drawn when the run began was drawn before this one too
+pub lends_more : (rule : Rule) (decisive known : Bool) (xs : List Exchange) (first r : Repository) (v : View) (slot : Slot) (old mid new : Outside) (counts counts' : TurnCounts) (s : Session) (x : Exchange) → Ran rule decisive known xs first r v slot old mid counts s → Begun rule known mid new counts counts' (state_in s r v) x
+    → IsTrue known → (n : ℕ) → n < slot.next_attempt → KeepsCustody old.told new.told n
+lends_more rule decisive known xs first r v slot old mid new counts counts' s x h t g n less =
+    drawn_on old.told mid.told new.told slot s.store.held.slot (phase_of s.store.held.collection) (h.trace.files g).goes (t.files g).goes (held_has s.store.held r mid.told (h.working g).holds) (h.risen g) (h.lends g) (t.lends g) n less
 
 -- the session has answered it
 pub ran_more : (rule : Rule) (decisive known : Bool) (xs : List Exchange) (first r : Repository) (v : View) (slot : Slot) (old mid new : Outside) (counts counts' : TurnCounts) (s s' : Session) (x : Exchange) (after : Repository) (view : View)
@@ -122,6 +132,12 @@ ran_more rule decisive known xs first r v slot old mid new counts counts' s s' x
   phase = sym t.phase ∙ sym (ap (λ (state : State). state.phase) (after_more (opened first) xs x));
   child = t.child;
   unwritten = λ told none. absurd (not_none xs x none);
+  leaves = λ g all. none_on old.told mid.told new.told (h.leaves g (all_front LeavesFiles xs (x ∷ []) all)) (t.unwritten g (all_last LeavesFiles xs x all));
+  lends = λ g. lends_more rule decisive known xs first r v slot old mid new counts counts' s x h t.begun g;
+  risen = λ g. let w = t.watches g in let after_is = (t.working g).holds.tables.phase in
+      risen_line slot s.store.held.slot s'.store.held.slot s.store.held.collection s'.store.held.collection after x (h.risen g)
+      (line_rises s.store.held.slot s.store.held.unswept s'.store.held.slot rule _ (state_in s r v) (state_in s r v) x.after v x.line (conditions x) x.reply (t.begun.step g) w.placed)
+      t.goes_on_by after_is w.starts (none_started rule (state_in s r v) x.after (conditions x) (phase_of s.store.held.collection) x (t.begun.step g) t.happens);
 }
 
 -- nothing was started, nor reaped
@@ -148,6 +164,7 @@ ran_first rule decisive by_rule old now counts s r v known serving begun working
     follow = counted;
     reads = reads;
     bound = ap (λ (n : Noted). n.bound) no_fault;
+    keeps = λ is all. reads_synced old.told now.told (f (known.2 is).0.0);
   };
   now_at = λ is. begun;
   live = λ is. live_before old.told now.told (f (known.2 is).0.0).files s.store.held.slot (held_has s.store.held r now.told (working (known.2 is).0).holds);
@@ -159,6 +176,9 @@ ran_first rule decisive by_rule old now counts s r v known serving begun working
   phase = ap phase_of idle;
   child = unasked.held ∙ (alone ∙ sym (ap child_of idle));
   unwritten = λ told none. none_synced old.told now.told (f told);
+  leaves = λ is all. none_synced old.told now.told (f (known.2 is).0.0);
+  lends = λ is n less. (f (known.2 is).0.0).changes.lending n;
+  risen = λ is. risen_first s.store.held.slot s.store.held.collection idle;
 }
 
 -- ---- how it ends
@@ -226,14 +246,14 @@ notes_none end old new turns reads unopened bound counted = record {
 
 pub asks_none : (cut_short : Bool) (old new : Outside) → IsUnasked old new → AsksChildren cut_short old new []
 asks_none cut_short old new unasked = record {
-  happen = record { whole = []; cut = []; all = refl; one = omega arith; none = λ _. refl; happen = tt; happen_cut = λ x is. absurd (cc is) };
+  happen = record { whole = []; cut = []; all = refl; one = omega arith; none = λ _. refl; some = λ _ behind. absurd (behind refl); happen = tt; happen_cut = λ x is. absurd (cc is) };
   spawned = λ b. ([], omega arith, unasked.spawned ∙ (told_none old.spawned ∙ ap (told_with (old.spawned.started ++ [])) (sym (append_nil (old.spawned.reaped ++ [])))));
   none_held = λ alone. unasked.held ∙ alone;
 }
 
 -- all of them happened, or all but one that was cut short
-pub happen_all : (cut_short : Bool) (xs : List Exchange) → AllHappen Phase.Idle xs → HappenIn cut_short xs
-happen_all cut_short xs all = record { whole = xs; cut = []; all = append_nil xs; one = omega arith; none = λ _. refl; happen = all; happen_cut = λ x is. absurd (cc is) }
+pub happen_all : (cut_short : Bool) → cut_short ≡ false → (xs : List Exchange) → AllHappen Phase.Idle xs → HappenIn cut_short xs
+happen_all cut_short uncut xs all = record { whole = xs; cut = []; all = append_nil xs; one = omega arith; none = λ _. refl; some = λ short behind. absurd (cc (short, uncut)); happen = all; happen_cut = λ x is. absurd (cc is) }
 
 pub happen_cut : (first : Repository) (xs : List Exchange) (x : Exchange) → AllHappen Phase.Idle xs → HappensCut (after_all (opened first) xs).phase x → HappenIn true (xs ++ x ∷ [])
 happen_cut first xs x all cut = record {
@@ -242,6 +262,7 @@ happen_cut first xs x all cut = record {
   all = refl;
   one = omega arith;
   none = λ c. absurd (cc c);
+  some = λ c behind empty. absurd (cc empty);
   happen = all;
   happen_cut = λ y is. (let same : x ≡ y = cc is in subst (HappensCut (phase_after Phase.Idle xs)) same (subst (λ (phase : Phase). HappensCut phase x) (sym (phase_all (opened first) xs)) cut));
 }
@@ -249,3 +270,20 @@ happen_cut first xs x all cut = record {
 -- one slot was live when the run began
 pub live_at : (rule : Rule) (decisive known : Bool) (xs : List Exchange) (first r : Repository) (v : View) (slot : Slot) (old now : Outside) (counts : TurnCounts) (session : Session) → Ran rule decisive known xs first r v slot old now counts session → IsTrue known → (live : Slot) → HasLive live old.told.held → slot ≡ live
 live_at rule decisive known xs first r v slot old now counts session h is live has = one_slot slot live old.told.held (h.live is) has
+
+-- what is so of the attempts that were drawn by then is so by any slot that was live
+pub lends_at : (rule : Rule) (decisive known : Bool) (xs : List Exchange) (first r : Repository) (v : View) (slot : Slot) (old now : Outside) (counts : TurnCounts) (session : Session) → Ran rule decisive known xs first r v slot old now counts session → IsTrue known → (new : Told) → ((n : ℕ) → n < slot.next_attempt → KeepsCustody old.told new n)
+    → (live : Slot) → HasLive live old.told.held → (n : ℕ) → n < live.next_attempt → KeepsCustody old.told new n
+lends_at rule decisive known xs first r v slot old now counts session h is new lends live has = subst (λ (s : Slot). (n : ℕ) → n < s.next_attempt → KeepsCustody old.told new n) (live_at rule decisive known xs first r v slot old now counts session h is live has) lends
+
+-- ---- the slots that were live
+
+pub slots_at : (rule : Rule) (decisive known : Bool) (xs : List Exchange) (first r : Repository) (v : View) (slot : Slot) (old now : Outside) (counts : TurnCounts) (session : Session) → Ran rule decisive known xs first r v slot old now counts session → IsTrue known → (since steps : ℕ) (new : Told) → SlotsSince since slot steps new
+    → (live : Slot) → HasLive live old.told.held → SlotsSince since live steps new
+slots_at rule decisive known xs first r v slot old now counts session h is since steps new slots live has = subst (λ (s : Slot). SlotsSince since s steps new) (live_at rule decisive known xs first r v slot old now counts session h is live has) slots
+
+-- one command more
+pub slots_run : (rule : Rule) (decisive known : Bool) (xs : List Exchange) (first r : Repository) (v : View) (slot : Slot) (old mid new : Outside) (counts counts' : TurnCounts) (s : Session) (x : Exchange) → Ran rule decisive known xs first r v slot old mid counts s → Begun rule known mid new counts counts' (state_in s r v) x
+    → IsTrue known → (since : ℕ) → since ≤ mid.told.moment → SlotsSince since slot (length xs) mid.told → KeepsSlots mid.told new.told → SlotsSince since slot (length (xs ++ x ∷ [])) new.told
+slots_run rule decisive known xs first r v slot old mid new counts counts' s x h t is since over was keeps =
+    slots_next since slot s.store.held.slot xs x mid.told new.told (t.files is).goes over (t.possible is) (held_has s.store.held r mid.told (h.working is).holds) was keeps

@@ -12,7 +12,7 @@ use Rattle.ip_ground.specs.Counts.{Noted, Rose, binds, as_nothing}
 use Rattle.ip_ground.specs.Custody.{Custody, lent}
 use Rattle.ip_ground.specs.Told.{Told, said, lending, ChangesOnly, SyncsOnly, Only, NoFile}
 use Rattle.ip_ground.specs.Calls.{Says}
-use Rattle.ip_ground.proofs.Spans.{said_now, lending_now}
+use Rattle.ip_ground.proofs.Spans.{said_now, lending_now, custody_on}
 use Rattle.ip_image.specs.declared.counts.TurnCounts.{TurnCounts}
 use Rattle.ip_image.specs.declared.slot.Slot.{Slot}
 use Rattle.ip_image.specs.Slot.{live_index}
@@ -49,18 +49,20 @@ use Rattle.ip_app.specs.Pending.{pending}
 use Rattle.ip_app.specs.Reading.{EndsReading, IsCaused}
 use Rattle.ip_app.specs.Exchanges.{Exchange, answer_of, lines_in, turns_in, texts_in, after_all}
 use Rattle.ip_app.specs.Exchanging.{Exchanged}
+use Rattle.ip_app.specs.Files.{SlotsSince}
 use Rattle.ip_app.specs.Happening.{HappensCut}
 use Rattle.ip_app.specs.Judged.{IsHeldIn, IsWatchedTo, WatchedIn, Watches}
 use Rattle.ip_app.specs.Turns.{turn_counts, Follow}
 use Rattle.ip_app.specs.Outside.{Outside, Tells, Knows, GoesOn, IsBound, IsUnasked}
 use Rattle.ip_app.specs.Serving.{is_cut_short, SaysPart, Took, TurnedIn, Stopped, HalfSaid, CutOff, CountsOf, OnlyRemovals, CountsServing, Stops, Served}
-use Rattle.ip_app.proofs.RanOn.{append_nil, after_more, told_before, goes_on_then, keeps_unchanged, trace_more, ran_more, ran_first, let_go_as, LetsGoAs, goes_on_gone, told_gone, notes_of, asks_of, notes_none, asks_none, happen_all, happen_cut, live_at}
+use Rattle.ip_app.proofs.LineFiles.{reads_synced, reads_on, none_read, slots_first, slots_later}
+use Rattle.ip_app.proofs.RanOn.{lends_more, lends_at, slots_at, slots_run, append_nil, after_more, told_before, goes_on_then, keeps_unchanged, trace_more, ran_more, ran_first, let_go_as, LetsGoAs, goes_on_gone, told_gone, notes_of, asks_of, notes_none, asks_none, happen_all, happen_cut, live_at}
 use Rattle.ip_app.specs.Run.{CouldNotOpen, IsUntouched, IsOpened, Begins, is_cut_off, is_unsaid, Row, IsBehindOpening, AsksChildren, Serves, EndsWhereAllIsWell}
 use Rattle.ip_app.proofs.Cleared.{clear_synced, cleared_at, cleared_same}
 use Rattle.ip_app.proofs.Counting.{removals_bound, removals_on, serving_of, serving_on, bound_to, bound_counts, IsNoDamage, no_damage}
 use Rattle.ip_app.proofs.Judging.{texts_same, lent_in, watched_none, watched_unbegun, watched_next, watched_still, watched_all, watched_cut}
 use Rattle.ip_app.proofs.LivePair.{live_on, owns_pending}
-use Rattle.ip_app.proofs.Unwritten.{none_on, not_none, only_one, damage_off}
+use Rattle.ip_app.proofs.Unwritten.{none_on, none_synced, not_none, only_one, damage_off}
 use Rattle.ip_app.proofs.SameFiles.{stands_after}
 use Rattle.ip_app.proofs.Moments.{headline_none, headline_turn}
 use Rattle.ip_app.proofs.LineLemmas.{whole_lines-line, whole_lines-rest, last_piece-line, last_piece-rest}
@@ -132,6 +134,7 @@ served_more rule decisive old mid new lines lines' counts counts' s s' h turned 
       headline = λ g order. headline_turn (h.opened_at g) old.told mid.told new.told (opened h.first) h.exchanges x (h.headline g order) (goes.files g).goes (h.over g) (h.said g)
           h.repository turned.after (ap (λ (state : State). state.repository) (h.ran.now_at g)) (ap (λ (state : State). state.repository) (sym (turned.exchanged.now_at g))) (turned.turning g (h.ran.nothing_pending g order));
       over = λ g. let was = h.over g in let later = (goes.files g).goes.later in omega (arith, was, later);
+      slots = λ g order. slots_run rule decisive h.known h.exchanges h.first h.repository h.view h.slot old mid new counts counts' s x h.ran goes g (h.opened_at g) (h.over g) (h.slots g order) ((turned.exchanged.watches g).slots (h.ran.nothing_pending g order));
     }
 
 -- no line was served yet
@@ -159,7 +162,15 @@ served_first rule decisive by_rule old now lines counts s r v none_known carried
       opened_at = λ is. (opening (known.2 is).0.0).since;
       over = λ is. over (known.2 is).0;
       headline = λ is order. let told = (known.2 is).0.0 in headline_none old.told now.told (f told) (opening told) r (began (known.2 is).0) order;
+      slots = λ is order. let told = (known.2 is).0.0 in slots_first old.told now.told (opening told) s.store.held.slot (held_has s.store.held r now.told (working (known.2 is).0).holds);
     }
+
+-- where the call did not end in the middle of a command none was cut short
+off_short : (s : Status) → is_cut_off s ≡ false → is_cut_short s ≡ false
+off_short status.GroundFault off = absurd (cc off)
+off_short (status.DamagedRecord at) off = absurd (cc off)
+off_short (status.DamagedName at want got) off = absurd (cc off)
+off_short _ off = refl
 
 -- no line was served at all
 pub serves_none : (rule : Rule) (decisive : Bool) (old new : Outside) (s : Status) → GoesOn old new → (IsTrue old.ground_tells → SyncsOnly (Only Control) old.told new.told) → (IsTrue old.ground_tells → RecoversOnceOpen old.told new.told) → new.left ≡ old.left → new.turns ≡ old.turns → IsUnasked old new → new.read_faults ≡ old.read_faults
@@ -178,17 +189,21 @@ serves_none rule decisive old new s g f opening left turns unasked reads unopene
         bytes = λ b. sym left;
         begun = ([], refl, λ c. refl);
         short = All-nil IsShort;
+        some = λ damage. absurd (no_damage s sound damage);
         run = λ told. tt;
         watched = λ told slot live. watched_unbegun rule reply_text (is_unsaid s) (is_cut_short s) old.told new.told slot first refl (quiet told.0.0) (live_on old.told new.told (f told.0.0).files slot live);
         said_part = λ b. record { whole = []; cut = []; part = []; unsaid = []; all = refl; one = omega arith; some = λ _ begun. absurd (begun refl); text = refl; said_is = quiet b.0.0 ∙ (sym (append_nil (said old.told)) ∙ sym (append_nil (said old.told ++ []))); silent = λ cut_short. refl };
         said_all = λ b c. quiet b.0.0 ∙ sym (append_nil (said old.told));
       };
       reopens = record {
-        any_moment = λ b d r stands order. ((opening b).since, λ behind. absurd (unopened behind), headline_none old.told new.told (f b) (opening b) r stands order);
+        any_moment = λ b d r stands order. ((opening b).since, λ behind. absurd (unopened behind), headline_none old.told new.told (f b) (opening b) r stands order, λ slot live. slots_first old.told new.told (opening b) slot (live_on old.told new.told (f b).files slot live));
         again = λ b d may. record { repository = may.repository; stands = stands_after old.told new.told (f b) (owns_pending old.told may.nothing_pending) may.repository may.stands; nothing_pending = (opening b).nothing_pending may.nothing_pending };
         stands = λ b whole h. stands_after old.told new.told (f b.0.0) b.0.1 first.repository h;
         clear = λ b whole. clear_synced old.told new.told (f b.0.0);
         files = λ b. keeps_unchanged old.told new.told (f b.0.0);
+        keeps = λ b all. reads_synced old.told new.told (f b.0.0);
+        leaves = λ b whole all. none_synced old.told new.told (f b.0.0);
+        lends = λ b slot live n less. (f b.0.0).changes.lending n;
       };
       notes = notes_none s old new turns reads unopened bound (serving_of s old.counts new.counts sound counted);
       children = asks_none (is_cut_short s) old new unasked;
@@ -265,9 +280,9 @@ row_of decisive status.Memory old mid new taken first xs o e n f c = absurd e
 row_of decisive status.Exists old mid new taken first xs o e n f c = absurd e
 
 -- the files stood for one repository at most when the run began
-of_opened : (behind : Type 0) (since : ℕ) (old new : Outside) (first : Repository) (xs : List Exchange) → StandsFor old.told.held first → (r : Repository) → StandsFor old.told.held r → since ≤ new.told.moment → Headline since old.told new.told (opened first) (map answer_of xs)
-    → (since : ℕ) × (behind → since ≤ new.told.moment) × Headline since old.told new.told (opened r) (map answer_of xs)
-of_opened behind since old new first xs began r stands reached run = (since, λ b. reached, subst (λ (q : Repository). Headline since old.told new.told (opened q) (map answer_of xs)) (one_repository old.told.held first r began stands) run)
+of_opened : (behind : Type 0) (since : ℕ) (old new : Outside) (first : Repository) (xs : List Exchange) → StandsFor old.told.held first → (r : Repository) → StandsFor old.told.held r → since ≤ new.told.moment → Headline since old.told new.told (opened first) (map answer_of xs) → ((slot : Slot) → HasLive slot old.told.held → SlotsSince since slot (length xs) new.told)
+    → (since : ℕ) × (behind → since ≤ new.told.moment) × Headline since old.told new.told (opened r) (map answer_of xs) × ((slot : Slot) → HasLive slot old.told.held → SlotsSince since slot (length xs) new.told)
+of_opened behind since old new first xs began r stands reached run slots = (since, λ b. reached, subst (λ (q : Repository). Headline since old.told new.told (opened q) (map answer_of xs)) (one_repository old.told.held first r began stands) run, slots)
 
 -- the source is read no further
 serves_stopped : (rule : Rule) (decisive : Bool) (s : Status) (old mid new : Outside) (lines lines' : Lines) (counts counts' : TurnCounts) (session : Session) (h : Served rule decisive old mid lines counts session) → Stopped s h.known mid new lines lines' counts counts' (state_in session h.repository h.view)
@@ -293,9 +308,10 @@ serves_stopped rule decisive s old mid new lines lines' counts counts' session h
         bytes = λ b. h.bytes b ∙ (ap (λ (u : Bytes). h.done ++ u) (t.front (told_before _ _ h.ran.trace.goes_on.source_tells b)) ∙ sym (append_assoc h.done t.rest new.left));
         begun = ([], whole, λ c. refl);
         short = h.short;
+        some = λ damage. absurd (cc (damage_off s damage, end.whole));
         run = λ b. h.ran.trace.run (h.ran.trace.known_so b);
         watched = λ b start live. let is = h.ran.trace.known_so b in subst (λ (t : Slot). WatchedIn rule reply_text (is_unsaid s) (is_cut_short s) old.told new.told t first h.exchanges) (live_at rule decisive h.known h.exchanges h.first h.repository h.view h.slot old mid counts session h.ran is start live)
-            (watched_all rule reply_text (is_unsaid s) (is_cut_short s) old.told new.told h.slot first h.exchanges session.store.held.collection session.store.held.slot session.store.held.unswept h.view
+            (watched_all rule reply_text (is_unsaid s) (is_cut_short s) (off_short s end.whole) old.told new.told h.slot first h.exchanges session.store.held.collection session.store.held.slot session.store.held.unswept h.view
             (watched_still rule reply_text old.told mid.told new.told t.files.goes t.same_moment t.same_held h.slot first h.exchanges session.store.held.collection session.store.held.slot session.store.held.unswept h.view (h.watched is))
             (subst (HasLive session.store.held.slot) (sym t.same_held) (held_has session.store.held h.repository mid.told (h.ran.working is).holds)) new.told.moment (omega arith) (λ _. quiet b ∙ ap (λ (u : Bytes). said old.told ++ u) (texts_same h.exchanges))
             (λ held. some_still session.store.held.collection mid.told new.told t.same_lending (lent_in mid.told session.store.held h.repository (h.ran.working is).holds (after_all first h.exchanges) (sym h.ran.phase) held)));
@@ -305,11 +321,16 @@ serves_stopped rule decisive s old mid new lines lines' counts counts' session h
       reopens = record {
         any_moment = λ b d r stands order. let is = known b d order in of_opened (IsBehindOpening s h.exchanges) (h.opened_at is) old new h.first h.exchanges (h.ran.trace.began (h.ran.trace.tells is)) r stands
             (let was = h.over is in let later = t.files.goes.later in omega (arith, was, later))
-            (headline_later (h.opened_at is) old.told mid.told new.told first (map answer_of h.exchanges) (h.headline is order) t.files.goes t.same_moment);
+            (headline_later (h.opened_at is) old.told mid.told new.told first (map answer_of h.exchanges) (h.headline is order) t.files.goes t.same_moment)
+            (slots_at rule decisive h.known h.exchanges h.first h.repository h.view h.slot old mid counts session h.ran is (h.opened_at is) (length h.exchanges) new.told (slots_later (h.opened_at is) h.slot (length h.exchanges) mid.told new.told t.files.goes t.same_moment (h.slots is order)));
         again = λ b d may. let is = known b d may.nothing_pending in record { repository = h.repository; stands = t.stands is; nothing_pending = t.nothing_pending (h.ran.nothing_pending is may.nothing_pending) };
         stands = λ b whole began. subst (λ (state : State). StandsFor new.told.held state.repository) (h.ran.now_at (h.ran.trace.known_so b)) (t.stands (h.ran.trace.known_so b));
         clear = λ b whole clear. let is = h.ran.trace.known_so b in cleared_same mid.told new.told session.store.held t.same_held t.same_lending (held_has session.store.held h.repository mid.told (h.ran.working is).holds) (h.ran.clear is clear);
         files = λ g. keeps_on old.told mid.told new.told (h.ran.trace.files (h.ran.trace.known_so g)) t.files;
+        keeps = λ b all. reads_on old.told mid.told new.told (h.ran.trace.keeps (h.ran.trace.known_so b) all) t.keeps;
+        leaves = λ b whole all. none_on old.told mid.told new.told (h.ran.leaves (h.ran.trace.known_so b) all) (none_read mid.told new.told t.keeps);
+        lends = λ b. let is = h.ran.trace.known_so b in lends_at rule decisive h.known h.exchanges h.first h.repository h.view h.slot old mid counts session h.ran is new.told
+            (λ n less. custody_on old.told mid.told new.told n (h.ran.trace.files is).goes t.keeps.goes (h.ran.lends is n less) (t.keeps.lending n));
       };
       notes = record {
         noted = λ l. t.same_turns ∙ h.ran.trace.noted (t.goes_on.log_tells l);
@@ -320,7 +341,7 @@ serves_stopped rule decisive s old mid new lines lines' counts counts' session h
         bound_first = λ some. bound;
       };
       children = record {
-        happen = happen_all (is_cut_short s) h.exchanges h.ran.phases;
+        happen = happen_all (is_cut_short s) (off_short s end.whole) h.exchanges h.ran.phases;
         spawned = λ b. (gone.ends, gone.few, told_gone old new spawned h.exchanges gone.ends (t.unasked.spawned ∙ h.ran.trace.spawned b) (gone.told (told_before _ _ (goes_on_then old mid new h.ran.trace.goes_on t.goes_on).spawner_tells b)));
         none_held = λ _. gone.none;
       };
@@ -370,6 +391,7 @@ serves_cut rule decisive s old mid new lines lines' counts counts' session h cut
         bytes = all_bytes rule decisive old mid new lines lines' counts session h x u.took;
         begun = (whole_lines (pending lines'), then_lines rule decisive old mid new lines lines' counts session h x u.took (pending lines'), λ c. absurd (cc (c, cut)));
         short = all_short rule decisive old mid new lines lines' counts session h x u.took;
+        some = λ damage none. absurd (not_none h.exchanges x none);
         run = λ b. trace.run (h.ran.trace.known_so b);
         watched = λ b start live. let is = h.ran.trace.known_so b in subst (λ (t : Slot). WatchedIn rule reply_text (is_unsaid s) (is_cut_short s) old.told new.told t first xs) (live_at rule decisive h.known h.exchanges h.first h.repository h.view h.slot old mid counts session h.ran is start live)
             (watched_cut rule reply_text (is_unsaid s) (is_cut_short s) u.short old.told mid.told new.told (goes.files is).goes h.slot first h.exchanges x session.store.held h.repository h.view (h.watched is) (h.said is ∙ ap (λ (u : Bytes). said old.told ++ u) (texts_same h.exchanges)) (h.ran.working is).holds (sym h.ran.phase)
@@ -381,11 +403,17 @@ serves_cut rule decisive s old mid new lines lines' counts counts' session h cut
         any_moment = λ b d r stands order. let is = known b d order in of_opened (IsBehindOpening s xs) (h.opened_at is) old new h.first xs (h.ran.trace.began (h.ran.trace.tells is)) r stands
             (let was = h.over is in let later = (goes.files is).goes.later in omega (arith, was, later))
             (headline_turn (h.opened_at is) old.told mid.told new.told first h.exchanges x (h.headline is order) (goes.files is).goes (h.over is) (h.said is)
-            h.repository x.after.repository (ap (λ (state : State). state.repository) (h.ran.now_at is)) refl (turns_quietly mid.told new.told _ h.repository x.after.repository (u.quiet is) (u.atomic is (h.ran.nothing_pending is order))));
+            h.repository x.after.repository (ap (λ (state : State). state.repository) (h.ran.now_at is)) refl (turns_quietly mid.told new.told _ h.repository x.after.repository (u.quiet is) (u.atomic is (h.ran.nothing_pending is order))))
+            (slots_at rule decisive h.known h.exchanges h.first h.repository h.view h.slot old mid counts session h.ran is (h.opened_at is) (length xs) new.told
+            (slots_run rule decisive h.known h.exchanges h.first h.repository h.view h.slot old mid new counts counts' session x h.ran goes is (h.opened_at is) (h.over is) (h.slots is order) (u.slots is (h.ran.nothing_pending is order))));
         again = λ b d may. let is = known b d may.nothing_pending in u.again is (h.ran.nothing_pending is may.nothing_pending);
         stands = λ b whole began. absurd (cc (whole, u.short));
         clear = λ b whole. absurd (cc (whole, u.short));
         files = λ g. trace.files (h.ran.trace.known_so g);
+        keeps = λ b. trace.keeps (h.ran.trace.known_so b);
+        leaves = λ b whole. absurd (cc (whole, u.short));
+        lends = λ b. let is = h.ran.trace.known_so b in lends_at rule decisive h.known h.exchanges h.first h.repository h.view h.slot old mid counts session h.ran is new.told
+            (lends_more rule decisive h.known h.exchanges h.first h.repository h.view h.slot old mid new counts counts' session x h.ran goes is);
       };
       notes = notes_of rule decisive h.known xs h.first s old new counts' trace (serving_on s old.counts mid.counts new.counts h.no_fault u.counted) spawned held spawns gone;
       children = subst (λ (cut_short : Bool). AsksChildren cut_short old (let_go_as new spawned held spawns) xs) (sym u.short)
@@ -416,9 +444,10 @@ serves_half rule decisive old mid new lines lines' counts counts' session sessio
         bytes = all_bytes rule decisive old mid new lines lines' counts session h x u.took;
         begun = (whole_lines (pending lines'), then_lines rule decisive old mid new lines lines' counts session h x u.took (pending lines'), λ c. absurd (cc c));
         short = all_short rule decisive old mid new lines lines' counts session h x u.took;
+        some = λ damage. absurd damage;
         run = λ b. ran.trace.run (h.ran.trace.known_so b);
         watched = λ b start live. let is = h.ran.trace.known_so b in let w = u.exchanged.watches is in subst (λ (t : Slot). WatchedIn rule reply_text true false old.told new.told t first xs) (live_at rule decisive h.known h.exchanges h.first h.repository h.view h.slot old mid counts session h.ran is start live)
-            (watched_all rule reply_text true false old.told new.told h.slot first xs session'.store.held.collection session'.store.held.slot session'.store.held.unswept u.view (watched_line rule decisive old mid new lines counts counts' session session' h x u.after u.view u.exchanged is)
+            (watched_all rule reply_text true false refl old.told new.told h.slot first xs session'.store.held.collection session'.store.held.slot session'.store.held.unswept u.view (watched_line rule decisive old mid new lines counts counts' session session' h x u.after u.view u.exchanged is)
             (held_has session'.store.held u.after new.told (u.exchanged.working is).holds) w.answered w.by_now (λ no. absurd (cc no)) (λ held. w.lent_behind (subst IsHeldIn (after_more first h.exchanges x) held)));
         said_part = λ b. let is = h.ran.trace.known_so b in let p = u.part is in record { whole = h.exchanges; cut = x ∷ []; part = p.0; unsaid = p.1; all = refl; one = omega arith; some = λ _ _ none. absurd (cc none); text = p.2 ∙ sym (append_nil (reply_text x.reply)); said_is = p.3 ∙ ap (λ (v : Bytes). v ++ p.0) (h.said is); silent = λ short. absurd (cc short) };
         said_all = λ b c. absurd (cc c);
@@ -427,14 +456,19 @@ serves_half rule decisive old mid new lines lines' counts counts' session sessio
         any_moment = λ b d r stands order. let is = known b d order in of_opened (IsBehindOpening status.SayFault xs) (h.opened_at is) old new h.first xs (h.ran.trace.began (h.ran.trace.tells is)) r stands
             (let was = h.over is in let later = (goes.files is).goes.later in omega (arith, was, later))
             (headline_turn (h.opened_at is) old.told mid.told new.told first h.exchanges x (h.headline is order) (goes.files is).goes (h.over is) (h.said is)
-            h.repository u.after (ap (λ (state : State). state.repository) (h.ran.now_at is)) (ap (λ (state : State). state.repository) (sym (u.exchanged.now_at is))) (u.turning is (h.ran.nothing_pending is order)));
+            h.repository u.after (ap (λ (state : State). state.repository) (h.ran.now_at is)) (ap (λ (state : State). state.repository) (sym (u.exchanged.now_at is))) (u.turning is (h.ran.nothing_pending is order)))
+            (slots_at rule decisive h.known h.exchanges h.first h.repository h.view h.slot old mid counts session h.ran is (h.opened_at is) (length xs) new.told
+            (slots_run rule decisive h.known h.exchanges h.first h.repository h.view h.slot old mid new counts counts' session x h.ran goes is (h.opened_at is) (h.over is) (h.slots is order) ((u.exchanged.watches is).slots (h.ran.nothing_pending is order))));
         again = λ b d may. let is = known b d may.nothing_pending in record { repository = u.after; stands = (u.exchanged.working is).holds.stands; nothing_pending = ran.nothing_pending is may.nothing_pending };
         stands = λ b whole began. let is = h.ran.trace.known_so b in subst (λ (state : State). StandsFor new.told.held state.repository) (ran.now_at is) (u.exchanged.working is).holds.stands;
         clear = λ b whole clear. let is = h.ran.trace.known_so b in cleared_at new.told session'.store.held (held_has session'.store.held u.after new.told (u.exchanged.working is).holds) (ran.clear is clear);
         files = λ g. ran.trace.files (h.ran.trace.known_so g);
+        keeps = λ b. ran.trace.keeps (h.ran.trace.known_so b);
+        leaves = λ b whole. ran.leaves (h.ran.trace.known_so b);
+        lends = λ b. let is = h.ran.trace.known_so b in lends_at rule decisive h.known h.exchanges h.first h.repository h.view h.slot old mid counts session h.ran is new.told (ran.lends is);
       };
       notes = notes_of rule decisive h.known xs h.first status.SayFault old new counts' ran.trace (serving_on status.SayFault old.counts mid.counts new.counts h.no_fault u.counted) spawned held spawns gone;
-      children = asks_of rule decisive h.known xs h.first false old new counts' ran.trace (happen_all false xs ran.phases) spawned held spawns gone;
+      children = asks_of rule decisive h.known xs h.first false old new counts' ran.trace (happen_all false refl xs ran.phases) spawned held spawns gone;
       row = tt;
       unopened = λ is. absurd (cc is);
       unwritten = λ told damage. absurd damage;

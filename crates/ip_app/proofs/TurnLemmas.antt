@@ -13,7 +13,7 @@ use Rattle.ip_ground.specs.declared.names.FileName.{FileName}
 use Rattle.ip_ground.specs.declared.names.FileName.TheVariants.{Control}
 use Rattle.ip_ground.specs.Told.{Told, said, KeepsPast, KeepsFile, KeepsCustody, KeepsSaid, IsPossibleNow, IsSynced}
 use Rattle.ip_ground.specs.Calls.{Says}
-use Rattle.ip_ground.proofs.Spans.{said_now, lending_now}
+use Rattle.ip_ground.proofs.Spans.{said_now, lending_now, custody_on}
 use Rattle.ip_image.specs.declared.counts.TurnCounts.{TurnCounts}
 use Rattle.ip_spec.specs.declared.met.Met.{Met}
 use Rattle.ip_spec.specs.declared.reply.Difference.{Difference}
@@ -43,11 +43,14 @@ use Rattle.ip_spec.specs.Repository.{Repository}
 use Rattle.ip_spec.specs.View.{View}
 use Rattle.ip_app.specs.Serving.{SaysPart, Took, Stopped, CutOff, Stops}
 use Rattle.ip_app.specs.Exchanging.{is_cut_short, ended_status, Begun, Exchanged, CutShort, CutsShort}
+use Rattle.ip_app.specs.Files.{OnlyReads, ReadsFiles, KeepsDrawn}
 use Rattle.ip_app.specs.Turns.{turn_counts, IsLater}
 use Rattle.ip_app.proofs.Cleared.{clear_along}
 use Rattle.ip_app.proofs.Counting.{later_of, cut_counts}
 use Rattle.ip_app.proofs.Happened.{exchange_of}
 use Rattle.ip_app.proofs.Judging.{watches_along}
+use Rattle.ip_app.proofs.LineFiles.{reads_itself, reads_kept, reads_on, none_read}
+use Rattle.ip_app.proofs.Unwritten.{none_on}
 use Rattle.ip_app.proofs.RanOn.{append_nil}
 use Rattle.ip_app.proofs.RunLemmas.{keeps_said, says_part}
 use Rattle.ip_image.proofs.HeadlineLaws.{turns_quietly}
@@ -58,8 +61,9 @@ pub begun_of : (rule : Rule) (known : Bool) (old new : Outside) (counts counts' 
     → (IsTrue new.log_tells → new.turns ≡ old.turns ++ record { met = told_met; before = counts; after = counts' } ∷ [])
     → counts' ≡ turn_counts new.counts new.spawns → counts ≡ turn_counts old.counts old.spawns
     → new.counts.bound ≡ old.counts.bound → (IsTrue old.spawner_tells → new.spawned ≡ record { started = old.spawned.started ++ starts_in old.dir jobs; reaped = old.spawned.reaped ++ ends }) → (IsTrue known → IsPossibleNow old.told)
+    → (IsTrue known → OnlyReads (exchange_of line told_met counts counts' difference jobs ends reply after) → ReadsFiles old.told new.told) → (IsTrue known → KeepsDrawn state.phase old.told new.told)
     → Begun rule known old new counts counts' state (exchange_of line told_met counts counts' difference jobs ends reply after)
-begun_of rule known old new counts counts' state after line met told_met difference jobs ends reply g files reads step same_met noted counted before bound spawned possible = record {
+begun_of rule known old new counts counts' state after line met told_met difference jobs ends reply g files reads step same_met noted counted before bound spawned possible keeps lends = record {
   goes_on = g;
   files = files;
   step = λ is. subst (λ (m : Met). LineStep IsLineOf rule state line (conditions_with m difference) reply after) (sym same_met) (step is);
@@ -72,6 +76,8 @@ begun_of rule known old new counts counts' state after line met told_met differe
   bound = bound;
   spawned = spawned;
   possible = possible;
+  keeps = keeps;
+  lends = lends;
 }
 
 -- ---- behind the reading of its line, and the saying of its reply
@@ -81,8 +87,8 @@ told_as mid left read_faults told counts = record mid { left = left; read_faults
 
 module _ (rule : Rule) (known : Bool) (old mid : Outside) (c c' : TurnCounts) (left : Bytes) (read_faults : ℕ) (told : Told) (counts : Noted) (same_reads : read_faults ≡ mid.read_faults) (files : IsTrue known → KeepsFiles mid.told told) (falls : NoneFalls mid.counts counts)
     (still : turn_counts mid.counts mid.spawns ≡ turn_counts counts mid.spawns) (still_bound : counts.bound ≡ mid.counts.bound) where
-  pub begun_along : (state : State) (x : Exchange) → Begun rule known old mid c c' state x → Begun rule known old (told_as mid left read_faults told counts) c c' state x
-  begun_along state x h = record {
+  pub begun_along : (state : State) (x : Exchange) → (IsTrue known → ReadsFiles mid.told told) → Begun rule known old mid c c' state x → Begun rule known old (told_as mid left read_faults told counts) c c' state x
+  begun_along state x unmoved h = record {
     goes_on = record {
       dir = h.goes_on.dir;
       source_tells = h.goes_on.source_tells;
@@ -104,16 +110,22 @@ module _ (rule : Rule) (known : Bool) (old mid : Outside) (c c' : TurnCounts) (l
     bound = still_bound ∙ h.bound;
     spawned = h.spawned;
     possible = h.possible;
+    keeps = λ is reads. reads_on old.told mid.told told (h.keeps is reads) (unmoved is);
+    lends = λ is slot has n less below. custody_on old.told mid.told told n (h.files is).goes (files is).goes (h.lends is slot has n less below) ((unmoved is).lending n);
   }
+
+  still_of : (IsTrue known → (file : FileName) → KeepsFile mid.told told file) → (IsTrue known → (attempt : ℕ) → KeepsCustody mid.told told attempt) → IsTrue known → ReadsFiles mid.told told
+  still_of stays lends is = reads_kept mid.told told (files is).goes (stays is) (lends is)
 
   pub exchanged_along : (s s' : Session) (r : Repository) (v : View) (x : Exchange) (after : Repository) (view : View) → (IsTrue known → IsWorking mid.told s' after view → IsWorking told s' after view) → (IsTrue known → NothingPending mid.told → NothingPending told) → (IsTrue known → (file : FileName) → KeepsFile mid.told told file) → (IsTrue known → (attempt : ℕ) → KeepsCustody mid.told told attempt) → (IsTrue known → IsSynced old.told Control) → (IsTrue known → IsPossibleNow mid.told)
       → Exchanged rule known old mid c c' s s' r v x after view → Exchanged rule known old (told_as mid left read_faults told counts) c c' s s' r v x after view
   exchanged_along s s' r v x after view works order stays lends kept possible h = record {
-    begun = begun_along (state_in s r v) x h.begun;
+    begun = begun_along (state_in s r v) x (still_of stays lends) h.begun;
     now_at = h.now_at;
     goes_on_by = h.goes_on_by;
-    watches = λ is. watches_along rule old.told mid.told told (h.begun.files is).goes (files is).goes (lends is) (state_in s r v) v view s.store.held.collection s'.store.held.collection s.store.held.slot s'.store.held.slot s.store.held.unswept s'.store.held.unswept x (h.nothing_pending is) (stays is) (held_has s'.store.held after mid.told (h.working is).holds) (kept is) (possible is) (h.watches is);
+    watches = λ is. watches_along rule old.told mid.told told (h.begun.files is).goes (files is).goes (lends is) (state_in s r v) v view s.store.held.collection s'.store.held.collection s.store.held.slot s'.store.held.slot s.store.held.unswept s'.store.held.unswept x (h.nothing_pending is) (stays is) (held_has s'.store.held after mid.told (h.working is).holds) (kept is) (h.working is).holds.kept (possible is) (h.watches is);
     clear = λ is cleared. clear_along mid.told told (λ file. (stays is file).held) (λ attempt. lending_now mid.told told (files is).goes attempt (lends is attempt)) s'.store.held.slot s'.store.held.unswept (h.clear is cleared);
+    unwritten = λ is leaves. none_on old.told mid.told told (h.unwritten is leaves) (none_read mid.told told (still_of stays lends is));
     happens = h.happens;
     phase = h.phase;
     child = h.child;
@@ -184,7 +196,7 @@ stops_short rule t known old new line read lines lines' counts counts' s s' r v 
       short = is_short;
       exchange = u.exchange;
       took = subst (λ (l : Bytes). Took old (told_as new left read_faults new.told new.counts) lines lines' l) (sym (u.line_is ∙ read_is)) took;
-      begun = begun_along rule known old new counts counts' left read_faults new.told new.counts same (λ is. keeps_itself new.told) (falls_itself new.counts) refl refl (state_in s r v) u.exchange u.begun;
+      begun = begun_along rule known old new counts counts' left read_faults new.told new.counts same (λ is. keeps_itself new.told) (falls_itself new.counts) refl refl (state_in s r v) u.exchange (λ is. reads_itself new.told) u.begun;
       counted = cut_counts t old.counts new.counts u.counted;
       unwritten = u.unwritten;
       happens = u.happens;

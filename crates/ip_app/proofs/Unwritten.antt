@@ -1,6 +1,7 @@
--- Behind damage no file is written.
---     none_itself, none_on      over no time, and over two spans behind one another
---     none_synced      where files were synced at most.      none_still      by what a session changes behind damage
+-- Where no file is written.
+--     not_foreign, not_loose      no file of the store is a child's
+--     none_on      over two spans behind one another
+--     none_synced      where files were synced at most.      none_changed      where none of those was changed that a session may change.      none_still      behind damage
 --     not_none, only_one      lists of exchanges that end with one
 --     damaged_end, damage_off, damage_short      which statuses are of damage
 use Rattle.std.proofs.Common.{◌≡◌, inl, inr, ℕ, ◌<◌, ◌≤◌, Bool, true, false, List, [], ◌∷◌, ◌++◌, length, refl, ◌∙◌, arith, length-append, subst, Option, None, Some, Err}
@@ -38,14 +39,14 @@ cases_attempt n (Mapping k) = cases_eq k n
 cases_attempt n (Done k) = cases_eq k n
 
 -- no child's
-not_foreign : (told : Told) (file : FileName) → IsOfStore file → ¬ IsForeign told file
+pub not_foreign : (told : Told) (file : FileName) → IsOfStore file → ¬ IsForeign told file
 not_foreign told Control is foreign = foreign
 not_foreign told (Chunk k) is foreign = foreign
 not_foreign told (Prefix k) is foreign = elim is [ inl control ↦ cc (control) | inr chunk ↦ cc (chunk.2) ]
 not_foreign told (Mapping k) is foreign = elim is [ inl control ↦ cc (control) | inr chunk ↦ cc (chunk.2) ]
 not_foreign told (Done k) is foreign = elim is [ inl control ↦ cc (control) | inr chunk ↦ cc (chunk.2) ]
 
-not_loose : (told : Told) (file : FileName) → IsOfStore file → ¬ IsLoose told file
+pub not_loose : (told : Told) (file : FileName) → IsOfStore file → ¬ IsLoose told file
 not_loose told Control is loose = loose
 not_loose told (Chunk k) is loose = loose
 not_loose told (Prefix k) is loose = elim is [ inl control ↦ cc (control) | inr chunk ↦ cc (chunk.2) ]
@@ -90,15 +91,19 @@ beside n a b goes others unwritten = record {
   left = λ file is. (others file (not_of_store file is n)).left (not_loose a file is);
 }
 
-pub none_still : (heard : Bool) (attempt : Option ℕ) (a b : Told) → ChangesBy heard attempt NoFile a b → WritesNone a b
-none_still heard None a b only = record {
+-- of those files that may have changed none has
+pub none_changed : (heard : Bool) (attempt : Option ℕ) (these : FileName → Type 0) (a b : Told) → ((file : FileName) → ¬ these file) → ChangesBy heard attempt these a b → WritesNone a b
+none_changed heard None these a b none only = record {
   goes = only.goes;
-  unwritten = λ file. (only.others file (λ h. h)).unwritten;
-  held = λ file is. (only.others file (λ h. h)).held (not_foreign a file is);
-  left = λ file is. (only.others file (λ h. h)).left (not_loose a file is);
+  unwritten = λ file. (only.others file (none file)).unwritten;
+  held = λ file is. (only.others file (none file)).held (not_foreign a file is);
+  left = λ file is. (only.others file (none file)).left (not_loose a file is);
 }
-none_still false (Some n) a b changes = beside n a b changes.goes (λ file not. changes.others file (λ h. h) not) changes.unwritten
-none_still true (Some n) a b changes = beside n a b changes.beside.goes (λ file not. changes.beside.others file (λ h. h) not) changes.beside.unwritten
+none_changed false (Some n) these a b none changes = beside n a b changes.goes (λ file not. changes.others file (none file) not) changes.unwritten
+none_changed true (Some n) these a b none changes = beside n a b changes.beside.goes (λ file not. changes.beside.others file (none file) not) changes.beside.unwritten
+
+pub none_still : (heard : Bool) (attempt : Option ℕ) (a b : Told) → ChangesBy heard attempt NoFile a b → WritesNone a b
+none_still heard attempt a b changes = none_changed heard attempt NoFile a b (λ file none. none) changes
 
 -- ---- lists
 

@@ -7,12 +7,12 @@
 --     Replied      its reply's text is there.      CutShort, CutsShort      it was cut short, and why
 --     Trace      so far: a run of the machine.      Ran      and the repository and the view that the session is in
 -- Of what a session does most is said where it is known to work: where `known` is true. It is for a whole run, from what the ground told at first.
-use Rattle.std.specs.Prelude.{ℕ, ◌+◌, ◌-◌, ◌^◌, ◌<◌, ◌≤◌, ◌≡◌, ◌≢◌, min, Bool, true, false, IsTrue, List, [], ◌∷◌, ◌++◌, Some, None}
+use Rattle.std.specs.Prelude.{ℕ, ◌+◌, ◌-◌, ◌^◌, ◌<◌, ◌≤◌, ◌≡◌, ◌≢◌, min, Bool, true, false, IsTrue, List, [], ◌∷◌, ◌++◌, Some, None, All}
 use Rattle.ip_ground.specs.declared.names.FileName.{FileName}
 use Rattle.ip_ground.specs.Contents.{Content}
 use Rattle.ip_ground.specs.Counts.{Noted, Rose, FileFault, DamageFound, binds}
 use Rattle.ip_base.specs.declared.exit.Reaped.{Reaped}
-use Rattle.ip_ground.specs.Told.{Told, KeepsPast, KeepsSaid, IsPossibleNow}
+use Rattle.ip_ground.specs.Told.{Told, KeepsPast, KeepsSaid, KeepsCustody, IsPossibleNow}
 use Rattle.ip_image.specs.declared.counts.TurnCounts.{TurnCounts}
 use Rattle.ip_image.specs.declared.slot.Slot.{Slot}
 use Rattle.ip_image.specs.Standing.{StandsFor}
@@ -39,6 +39,7 @@ use Rattle.ip_session.specs.Asking.{GoesOnBy, starts_in}
 use Rattle.ip_session.specs.Session.{IsServing, IsWorking, state_in}
 use Rattle.ip_app.specs.declared.statuses.Status.{Status}
 use Rattle.ip_app.specs.Exchanges.{Exchange, conditions, Run, turns_in, after_all}
+use Rattle.ip_app.specs.Files.{OnlyReads, LeavesFiles, ReadsFiles, KeepsDrawn, HasRisen}
 use Rattle.ip_app.specs.Happening.{Happens, HappensCut, AllHappen, started_in, ends_in}
 use Rattle.ip_app.specs.Judged.{Watches, Settles}
 use Rattle.ip_app.specs.Turns.{turn_counts, IsLater, Follow}
@@ -140,15 +141,20 @@ pub record Begun (rule : Rule) (known : Bool) (old new : Outside) (counts counts
   pub spawned : IsTrue old.spawner_tells → new.spawned ≡ record { started = old.spawned.started ++ starts_in old.dir x.started; reaped = old.spawned.reaped ++ x.reaped }
   -- what the files read as when it began is one of the things that a crash might have left
   pub possible : IsTrue known → IsPossibleNow old.told
+  -- a command that only reads changes no file, also where it was cut short
+  pub keeps : IsTrue known → OnlyReads x → ReadsFiles old.told new.told
+  pub lends : IsTrue known → KeepsDrawn state.phase old.told new.told
 
 -- by a session in a repository, which is in the one after it then
 pub record Exchanged (rule : Rule) (known : Bool) (old new : Outside) (counts counts' : TurnCounts) (s s' : Session) (r : Repository) (v : View) (x : Exchange) (after : Repository) (view : View) : Type 0 where
   pub begun : Begun rule known old new counts counts' (state_in s r v) x
   pub now_at : IsTrue known → x.after ≡ state_in s' after view
-  pub goes_on_by : GoesOnBy x.started s.store.held.collection s'.store.held.collection
+  pub goes_on_by : GoesOnBy x.turn.met.child x.started s.store.held.collection s'.store.held.collection
   pub watches : IsTrue known → Watches rule old.told new.told (state_in s r v) v view s.store.held.collection s'.store.held.collection s.store.held.slot s'.store.held.slot s.store.held.unswept s'.store.held.unswept x
   -- what had been cleared away is so still
   pub clear : IsTrue known → KeepsClear s.store.held s'.store.held old.told new.told
+  -- where it was not done, nor a sweep made behind it
+  pub unwritten : IsTrue known → LeavesFiles x → WritesNone old.told new.told
   pub happens : Happens (phase_of s.store.held.collection) x
   pub phase : x.after.phase ≡ phase_of s'.store.held.collection
   pub child : new.held ≡ child_of s'.store.held.collection
@@ -210,6 +216,7 @@ pub record Trace (rule : Rule) (decisive known : Bool) (exchanges : List Exchang
   pub follow : Follow (turn_counts old.counts old.spawns) (turns_in exchanges) counts
   pub reads : now.read_faults ≡ old.read_faults
   pub bound : now.counts.bound ≡ binds old.dir (Some old.dir) old.counts.bound
+  pub keeps : IsTrue known → All OnlyReads exchanges → ReadsFiles old.told now.told
 
 -- none was, and the session goes on
 pub record Ran (rule : Rule) (decisive known : Bool) (exchanges : List Exchange) (first repository : Repository) (view : View) (slot : Slot) (old now : Outside) (counts : TurnCounts) (session : Session) : Type 0 where
@@ -226,3 +233,8 @@ pub record Ran (rule : Rule) (decisive known : Bool) (exchanges : List Exchange)
   pub child : now.held ≡ child_of session.store.held.collection
   -- before the first command nothing was written
   pub unwritten : IsTrue old.ground_tells → exchanges ≡ [] → WritesNone old.told now.told
+  -- nor by commands that were not done, and made no sweep
+  pub leaves : IsTrue known → All LeavesFiles exchanges → WritesNone old.told now.told
+  -- an attempt that had been drawn when the run began is whose it was, and that of the collection was drawn since
+  pub lends : IsTrue known → (n : ℕ) → n < slot.next_attempt → KeepsCustody old.told now.told n
+  pub risen : IsTrue known → HasRisen slot session.store.held.slot (phase_of session.store.held.collection)

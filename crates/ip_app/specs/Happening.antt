@@ -18,7 +18,7 @@ use Rattle.ip_spec.specs.declared.reply.Reply.TheVariants as Reply
 use Rattle.ip_spec.specs.Machine.{Phase, exit_kept}
 use Rattle.ip_spec.specs.Path.{Bytes}
 use Rattle.ip_spec.specs.Line.{IsLineOf}
-use Rattle.ip_session.specs.Asking.{HasStarted, MayReap, starts_in}
+use Rattle.ip_session.specs.Asking.{AsksNoGround, HasStarted, IsUnanswered, MayReap, starts_in}
 use Rattle.ip_app.specs.Exchanges.{Exchange}
 
 -- in an exchange that began in this phase
@@ -67,11 +67,16 @@ pub record CutBy (command : Command) (phase : Phase) (x : Exchange) : Type 0 whe
   pub asks : AsksBy command phase x
   pub none_failed : (x.turn.met.start_failed ≡ false) × (x.turn.met.kill_failed ≡ false)
   pub none_left : (x.turn.met.left ≡ 0) × (x.turn.after.remove_faults ≡ x.turn.before.remove_faults)
+  -- nor was memory wanting, a limit reached, or a check gone on with: what is met so has an answer
+  pub unanswered : IsUnanswered x.turn.met
+  -- one that asks nothing of the ground is never cut short
+  pub reached : ¬ AsksNoGround command
 
 -- no child was started by a command that a fault cut short
 pub record HappensCut (phase : Phase) (x : Exchange) : Type 0 where
   pub none_started : x.started ≡ []
   pub command : (command : Command) → IsLineOf command x.line → CutBy command phase x
+  pub none : ((command : Command) → ¬ IsLineOf command x.line) → (x.reaped ≡ []) × (x.turn.after.spawner ≡ x.turn.before.spawner) × (x.turn.after.remove_faults ≡ x.turn.before.remove_faults)
 
 abbrev pub phase_after : Phase → List Exchange → Phase
 phase_after phase [] = phase
@@ -83,6 +88,7 @@ pub record HappenIn (is_cut_short : Bool) (exchanges : List Exchange) : Type 0 w
   pub all : whole ++ cut ≡ exchanges
   pub one : length cut ≤ 1
   pub none : is_cut_short ≡ false → cut ≡ []
+  pub some : is_cut_short ≡ true → exchanges ≢ [] → cut ≢ []
   pub happen : AllHappen Phase.Idle whole
   pub happen_cut : (x : Exchange) → cut ≡ x ∷ [] → HappensCut (phase_after Phase.Idle whole) x
 

@@ -6,8 +6,8 @@
 --     IsJudgedAs told answered behind phase records job reaped x      what an exchange met of the child with this job is what it left, by these records
 --     IsSameFor job image other      the bytes that a child may read are the same.      ReadsSame told child until      so they are up to this moment.      IsHeldIn s      a child is held
 --     HasSweptIn x      a sweep was made behind it
---     Point      a point of a run between two commands.      begun_at slot first      where it begins.      behind_it p x answered behind view slot unswept looked      behind an exchange.      point_of s view slot unswept last collection      by a collection
---     AllLeft these left image lending      so many of these files are there at most.      looked_in collection      how many records were looked at.      IsCheckedTo records job before after left      behind a look that is not through
+--     Point      a point of a run between two commands.      begun_at slot first      where it begins.      behind_it p x answered behind view slot unswept looked      behind an exchange.      point_of s view slot unswept last collection answered      by a collection
+--     AllLeft these left image lending      so many of these files are there at most.      FindsValid reply      a look has found the pair to be valid.      IsCheckedTo records job before after left      behind a look that is not through
 --     IsAimed records phase job      where the horizon of a job lies.
 --     StaysFrom told t from, Settles a b      what was settled is so still.      IsUnsweptBehind x slot before now      what is unswept behind an exchange
 --     Watches rule a b s v view before now slot slot' unswept unswept' x      so of an exchange that began in this state, between what is told before it and behind its reply
@@ -51,8 +51,8 @@ use Rattle.ip_held.specs.Collecting.{phase_of, until, IsJobOf}
 use Rattle.ip_held.specs.Slots.{IsSlotFrom, KeepsSlots}
 use Rattle.ip_held.specs.Sweeping as sweeping
 use Rattle.ip_keep.specs.Keeping.{starts_between}
-use Rattle.ip_collects.specs.Finishing.{looked_at}
-use Rattle.ip_session.specs.Asking.{HasStarted, IsBoundedIn, looks}
+use Rattle.ip_check.specs.Checking.{LooksAtAll}
+use Rattle.ip_session.specs.Asking.{HasStarted, IsBoundedIn, looked_in, looks}
 use Rattle.ip_session.specs.Clearing.{SweepsBehind, unswept_behind}
 use Rattle.ip_session.specs.Placing.{PlacedIn}
 use Rattle.ip_session.specs.Session.{IsViewIn}
@@ -126,7 +126,7 @@ IsHeldIn s = (commit : ℕ) × (s.phase ≡ Phase.Collecting commit None)
 abbrev pub HasSweptIn : Exchange → Type 0
 HasSweptIn x = (command : Command) × IsLineOf command x.line × SweepsBehind command x.reply
 
--- A point of a run between two commands: the machine's state, the view of the work's tree, the slot that is live, what is unswept, the child that was started last, and how many records of its job were looked at.
+-- A point of a run between two commands: the machine's state, the view of the work's tree, the slot that is live, what is unswept, the child that was started last, how many records of its job were looked at, and when the last exchange was answered.
 pub record Point : Type 0 where
   pub state : State
   pub view : View
@@ -134,23 +134,25 @@ pub record Point : Type 0 where
   pub unswept : Unswept
   pub last : Option Started
   pub looked : ℕ
+  pub answered : Option ℕ
 
 -- where a run begins
 abbrev pub begun_at : Slot → State → Point
-begun_at slot first = record { state = first; view = no_view; slot = slot; unswept = unswept_in slot; last = None; looked = 0 }
+begun_at slot first = record { state = first; view = no_view; slot = slot; unswept = unswept_in slot; last = None; looked = 0; answered = None }
 
 -- and behind an exchange that was answered at this moment
 abbrev pub behind_it : Point → Exchange → (answered : ℕ) → Image → View → Slot → Unswept → ℕ → Point
-behind_it p x answered behind view slot unswept looked = record { state = x.after; view = view; slot = slot; unswept = unswept; last = last_started answered behind x.started p.last; looked = looked }
+behind_it p x answered behind view slot unswept looked = record { state = x.after; view = view; slot = slot; unswept = unswept; last = last_started answered behind x.started p.last; looked = looked; answered = Some answered }
 
 -- So many of these files are there at most, by whose they are, but for those that a child may write. A count that stands at its last value says nothing.
 abbrev pub AllLeft : (FileName → Type 0) → ℕ → Image → (ℕ → Custody) → Type 0
 AllLeft these left image lending = left < 2 ^ 64 - 1 → (those : List FileName) × (length those ≤ left) × ((file : FileName) → these file → ¬ custody.IsForeign (custody_of lending file) → (image file ≡ None) ⊎ Contains those file)
 
--- how many records were looked at
-abbrev pub looked_in : Option Collection → ℕ
-looked_in None = 0
-looked_in (Some c) = looked_at c
+-- the pair was found to be valid
+abbrev pub FindsValid : Reply → Type 0
+FindsValid (Reply.Collected floor left) = Unit {0}
+FindsValid (Reply.Limit limit) = Unit {0}
+FindsValid reply = ⊥
 
 -- A check that is not through has looked at that many records more; so it is answered so often at most.
 -- Of the records below the job's end those from its horizon on are looked at first, ascending.
@@ -207,19 +209,24 @@ pub record Watches (rule : Rule) (a b : Told) (s : State) (v view : View) (befor
   pub judged : (reaped : Reaped) → x.turn.met.child ≡ Child.Ended reaped → IsSomeAnd before (λ c. IsJudgedAs b answered behind s.phase stands.standing.records c.job reaped x)
   pub checked : (left : ℕ) → x.reply ≡ Reply.Checking left → IsSomeAnd before (λ c. IsCheckedTo (until c.job.end stands_behind.standing.records) c.job (looked_in before) (looked_in now) left)
   pub looked : (commit : ℕ) (exit : Option Reaped) → x.after.phase ≡ Phase.Collecting commit exit → x.started ≡ [] → looked_in before ≤ looked_in now
+  pub same : ((reaped : Reaped) → x.turn.met.child ≢ Child.Ended reaped) → (commit : ℕ) (exit : Option Reaped) → x.after.phase ≡ Phase.Collecting commit exit → x.started ≡ [] → looked_in now ≡ looked_in before
+  pub begun : x.started ≢ [] → looked_in now ≡ 0
+  pub few : IsLineOf Command.Look x.line → looked_in now ≤ looked_in before + looks
   -- whose the attempt of a child is
   pub lent : IsHeldIn s → IsSomeAnd before (λ c. lending a c.job.attempt ≡ custody.lent)
   pub lent_behind : IsHeldIn x.after → IsSomeAnd now (λ c. b.lending_at answered c.job.attempt ≡ custody.lent)
   pub swept : HasSweptIn x → IsSomeAnd before (λ c. (pair : Image) × IsSettledAt b answered c.job.attempt pair)
   -- of what the sweep was to remove all is gone but so many files
   pub all_but : HasSweptIn x → AllLeft (sweeping.IsSwept slot' unswept) x.turn.met.left behind (b.lending_at answered)
-  -- a look that collects looks at no more records than any
+  -- a look that finds the pair valid looks at no more records than any
   pub bounded : IsLineOf Command.Look x.line → IsBoundedIn stands.standing.records before x.reply
   pub slots : NothingPending a → KeepsSlots a b
   pub settles : NothingPending a → Settles a b
   pub stays : NothingPending a → (t : ℕ) → (t ≤ a.moment → StaysFrom a t a.moment) → t ≤ answered → StaysFrom b t answered
   -- where nothing was left to be cleared that is not unswept: behind a sweep that left nothing all is gone that no collection needs
   pub clear : IsClearTo slot unswept a.held (lending a) → HasSweptIn x → x.turn.met.left ≡ 0 → IsClear slot' behind (b.lending_at answered)
+  -- while its reply is said the slot behind it is live in whatever a crash leaves
+  pub stays_live : (t : ℕ) → answered < t → t ≤ b.moment → (crashed : Image) → IsPossible b t crashed → HasLive slot' crashed
   -- what a child may read stays while the command runs, and while its reply is said
   pub job : IfSome before (λ c. IsJobOf slot c.job)
   pub job_behind : IfSome now (λ c. IsJobOf slot' c.job)
@@ -256,16 +263,22 @@ pub record Watched (rule : Rule) (old told : Told) (said_before : Bytes) (since 
   -- what was looked at is not looked at again while the collection goes on
   pub checked : (left : ℕ) → x.reply ≡ Reply.Checking left → IsSomeAnd p.last (λ child. IsCheckedTo (until child.job.end stands_behind.standing.records) child.job p.looked q.looked left)
   pub looked : (commit : ℕ) (exit : Option Reaped) → x.after.phase ≡ Phase.Collecting commit exit → x.started ≡ [] → p.looked ≤ q.looked
+  -- nor is anything before its child is heard to have ended, and nothing was of one that was started; a look looks at no more than so many
+  pub same : ((reaped : Reaped) → x.turn.met.child ≢ Child.Ended reaped) → (commit : ℕ) (exit : Option Reaped) → x.after.phase ≡ Phase.Collecting commit exit → x.started ≡ [] → q.looked ≡ p.looked
+  pub begun : x.started ≢ [] → q.looked ≡ 0
+  pub few : IsLineOf Command.Look x.line → q.looked ≤ p.looked + looks
   -- A child that is held may still write its files. Behind a sweep that of the last one does not any more.
   pub lent : IsHeldIn p.state → IsSomeAnd p.last (λ child. told.lending_at began child.job.attempt ≡ custody.lent)
   pub lent_behind : IsHeldIn x.after → IsSomeAnd q.last (λ child. told.lending_at answered child.job.attempt ≡ custody.lent)
   pub swept : HasSweptIn x → IsSomeAnd p.last (λ child. (pair : Image) × IsSettledAt told answered child.job.attempt pair)
   -- of what the sweep was to remove all is gone but so many files
   pub all_but : HasSweptIn x → AllLeft (sweeping.IsSwept q.slot p.unswept) x.turn.met.left behind (told.lending_at answered)
-  -- a look that collects looks at no more records than any
-  pub bounded : IsLineOf Command.Look x.line → (floor left : ℕ) → x.reply ≡ Reply.Collected floor left → IsSomeAnd p.last (λ child. count_by (starts_between child.job.horizon child.job.end) stands.standing.records ≤ p.looked + looks)
+  -- a look that finds the pair valid looks at no more records than any: each record from the horizon on once, and each that is kept twice, were no more to look at
+  pub bounded : IsLineOf Command.Look x.line → FindsValid x.reply → IsSomeAnd p.last (λ child. LooksAtAll (until child.job.end stands.standing.records) child.job (p.looked + looks))
   -- where nothing was pending at first: the slot that was live is so in whatever a crash leaves, or the next
   pub slots : NothingPending old → (t : ℕ) → began < t → t ≤ answered → (crashed : Image) → IsPossible told t crashed → IsSlotFrom p.slot crashed
+  -- and from when the command before it was answered until it began that slot alone is
+  pub live_until : IfSome p.answered (λ at. (t : ℕ) → at < t → t ≤ began → (crashed : Image) → IsPossible told t crashed → HasLive p.slot crashed)
   -- what was settled by then stays so up to the end of the run
   pub stays : NothingPending old → (t : ℕ) → old.moment ≤ t → t ≤ answered → StaysFrom told t answered
   -- Where nothing was left to be cleared when the run began that its slot names as swept: behind a sweep that left nothing all is gone that no collection needs.
@@ -300,6 +313,7 @@ pub record WatchedIn (rule : Rule) (says : Reply → Bytes) (is_unsaid is_cut_sh
   pub all : whole ++ cut ≡ exchanges
   pub one : length cut ≤ 1
   pub none : is_cut_short ≡ false → cut ≡ []
+  pub some : is_cut_short ≡ true → exchanges ≢ [] → cut ≢ []
   pub end : Point
   pub watched : AllWatched rule says old new (said old) old.moment (begun_at slot first) whole end
   -- the slot in the end is that of the files
@@ -313,15 +327,19 @@ pub record WatchedIn (rule : Rule) (says : Reply → Bytes) (is_unsaid is_cut_sh
   pub reads : NothingPending old → IsHeldIn (after_all first whole) → IsSomeAnd end.last (λ child. ReadsSame new child ended × (HearsNone cut → ReadsSame new child new.moment))
   -- where nothing was pending at first: while the last command is cut short too the slot that was live is so in whatever a crash leaves, or the next
   pub slots : NothingPending old → cut ≢ [] → (t : ℕ) → ended < t → t ≤ new.moment → (crashed : Image) → IsPossible new t crashed → IsSlotFrom end.slot crashed
+  -- and behind the last one of these that slot alone is, up to the end of the run, or to the begin of one that was cut short
+  pub live_until : IfSome end.answered (λ at. (t : ℕ) → at < t → t ≤ new.moment → (cut ≢ [] → t ≤ ended) → (crashed : Image) → IsPossible new t crashed → HasLive end.slot crashed)
 
 -- the last child, with the number of records of its job that were looked at
-abbrev pub point_of : State → View → Slot → Unswept → Option Started → Option Collection → Point
-point_of s view slot unswept last collection = record { state = s; view = view; slot = slot; unswept = unswept; last = last; looked = looked_in collection }
+abbrev pub point_of : State → View → Slot → Unswept → Option Started → Option Collection → Option ℕ → Point
+point_of s view slot unswept last collection answered = record { state = s; view = view; slot = slot; unswept = unswept; last = last; looked = looked_in collection; answered = answered }
 
 -- A collection that goes on is that of the child that was started last, and while the child is held what it may read stays.
 pub record IsWatchedTo (rule : Rule) (says : Reply → Bytes) (old now : Told) (slot : Slot) (first : State) (exchanges : List Exchange) (collection : Option Collection) (slot' : Slot) (unswept : Unswept) (view : View) : Type 0 where
   pub last : Option Started
-  pub watched : AllWatched rule says old now (said old) old.moment (begun_at slot first) exchanges (point_of (after_all first exchanges) view slot' unswept last collection)
+  pub answered : Option ℕ
+  pub watched : AllWatched rule says old now (said old) old.moment (begun_at slot first) exchanges (point_of (after_all first exchanges) view slot' unswept last collection answered)
+  pub live_until : IfSome answered (λ at. (t : ℕ) → at < t → t ≤ now.moment → (crashed : Image) → IsPossible now t crashed → HasLive slot' crashed)
   pub going : IfSome collection (λ c. IsSomeAnd last (λ child. child.job ≡ c.job))
   pub stays : NothingPending old → (t : ℕ) → old.moment ≤ t → t ≤ now.moment → StaysFrom now t now.moment
   pub reads : NothingPending old → IsHeldIn (after_all first exchanges) → IsSomeAnd last (λ child. ReadsSame now child now.moment × IsSameFor child.job child.image now.held × (child.from ≤ now.moment))

@@ -1,6 +1,7 @@
 pub mod Ending
 pub mod Exchanges
 pub mod Exchanging
+pub mod Files
 pub mod Happening
 pub mod Judged
 pub mod Lines

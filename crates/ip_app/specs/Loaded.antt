@@ -29,6 +29,7 @@ use Rattle.ip_app.specs.declared.load.LoadRoom.{LoadRoom}
 use Rattle.ip_app.specs.declared.statuses.Status.{Status}
 use Rattle.ip_app.specs.Exchanges.{Exchange, answer_of, lines_in}
 use Rattle.ip_app.specs.Exchanging.{OnlyRemovals, CountsServing, Exchanged, CutsShort, Ran}
+use Rattle.ip_app.specs.Files.{SlotsSince}
 use Rattle.ip_app.specs.Judged.{IsWatchedTo, says_nothing}
 use Rattle.ip_app.specs.Loading.{replies_in}
 use Rattle.ip_app.specs.Outside.{Outside}
@@ -67,6 +68,7 @@ pub record Loaded (rule : Rule) (decisive : Bool) (seed state number : ℕ) (old
   pub opened_at : IsTrue known → ℕ
   pub over : (is : IsTrue known) → opened_at is ≤ now.told.moment
   pub quiet : (is : IsTrue known) → NothingPending old.told → QuietRun (opened_at is) old.told now.told (opened first) (map answer_of exchanges)
+  pub slots : (is : IsTrue known) → NothingPending old.told → SlotsSince (opened_at is) slot (length exchanges) now.told
 
 -- this line was said, and the reply's text behind it
 pub record Summed (rule : Rule) (status : Status) (known : Bool) (old new : Outside) (line : Bytes) (counts counts' : TurnCounts) (s s' : Session) (r : Repository) (v : View) : Type 0 where

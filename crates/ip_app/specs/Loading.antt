@@ -5,9 +5,9 @@
 --     SaysSummary      what was said in the end
 --     LoadReplies, LoadReopens      its replies, and what its files stand for.      Loads      one record for the call
 --     LoadsWhereAllIsWell      which statuses need a fault
-use Rattle.std.specs.Prelude.{ℕ, ◌<◌, ◌≤◌, ◌≡◌, ◌≢◌, ◌⊎◌, Bool, false, IsTrue, List, [], ◌∷◌, ◌++◌, length, map, take, drop, codes}
+use Rattle.std.specs.Prelude.{ℕ, ◌<◌, ◌≤◌, ◌≡◌, ◌≢◌, ◌⊎◌, Bool, false, IsTrue, List, [], ◌∷◌, ◌++◌, length, map, take, drop, codes, All}
 use Rattle.ip_ground.specs.Contents.{Image, Possible}
-use Rattle.ip_ground.specs.Told.{Told, said}
+use Rattle.ip_ground.specs.Told.{Told, said, KeepsCustody}
 use Rattle.ip_image.specs.declared.slot.Slot.{Slot}
 use Rattle.ip_image.specs.Standing.{StandsFor}
 use Rattle.ip_image.specs.Pending.{HasLive, NothingPending, AllFlushed, crash_at}
@@ -24,6 +24,7 @@ use Rattle.ip_held.specs.Sweeping.{KeepsFiles}
 use Rattle.ip_app.specs.declared.statuses.Status.{Status}
 use Rattle.ip_app.specs.Exchanges.{Exchange, answer_of, Run, lines_in, texts_in, after_all}
 use Rattle.ip_app.specs.Exchanging.{is_cut_short, IsDamage, WritesNone}
+use Rattle.ip_app.specs.Files.{OnlyReads, LeavesFiles, ReadsFiles, SlotsSince}
 use Rattle.ip_app.specs.Judged.{WatchedIn, says_nothing}
 use Rattle.ip_app.specs.Outside.{Outside, Tells, Knows, GoesOn}
 use Rattle.ip_app.specs.Run.{IsUntouched, Begins, IsBehindOpening, Row, Notes, AsksChildren, NoneRose}
@@ -78,6 +79,8 @@ pub record LoadReopens (decisive : Bool) (count : ℕ) (old new : Outside) (stat
   -- at every moment from the first sync of opening on, where the ground was in order
   pub any_moment : IsTrue old.ground_tells → IsTrue decisive → (r : Repository) → StandsFor old.told.held r → NothingPending old.told
       → (since : ℕ) × (IsBehindOpening status exchanges → since ≤ new.told.moment) × LoadHeadline since old.told new.told (opened r) (map answer_of exchanges) (load_text count exchanges)
+      -- and of the slot that is live in whatever a crash leaves
+      × ((slot : Slot) → HasLive slot old.told.held → SlotsSince since slot (length exchanges) new.told)
   -- and the ground that is left may be served, however this run ended
   pub again : IsTrue old.ground_tells → IsTrue decisive → MayServe old.told → MayServe new.told
   -- in the end the files stand for the repository after all of them, unless a fault of the ground or of its files cut the last one short
@@ -86,6 +89,12 @@ pub record LoadReopens (decisive : Bool) (count : ℕ) (old new : Outside) (stat
   pub clear : Knows decisive old → is_cut_short status ≡ false → IsClearAt old.told → IsClearAt new.told
   -- of the files that are no chunk and not the control file none is written but by a child: it stays or is removed
   pub files : Knows decisive old → KeepsFiles old.told new.told
+  -- commands that only read, and opening, change and remove no file and lend none to a child, however the run ends
+  pub keeps : Knows decisive old → All OnlyReads exchanges → ReadsFiles old.told new.told
+  -- nor is one written where no command was done and no sweep made
+  pub leaves : Knows decisive old → is_cut_short status ≡ false → All LeavesFiles exchanges → WritesNone old.told new.told
+  -- an attempt that had been drawn when the call began is whose it was, at every moment: it is neither lent nor settled
+  pub lends : Knows decisive old → (slot : Slot) → HasLive slot old.told.held → (n : ℕ) → n < slot.next_attempt → KeepsCustody old.told new.told n
 
 -- of the statuses that end the reading of a source none comes
 abbrev pub LoadRow : (decisive : Bool) → Status → Outside → Outside → Type 0

@@ -5,12 +5,12 @@
 --     EndsAsBytes, EndsWhereAllIsWell      of a serving call: the source's bytes give the status; and which statuses need a fault
 --     LeavesAll      of a call that is refused: nothing changes
 --     StandsAgain new said first steps      of a ground that is opened behind a stop
-use Rattle.std.specs.Prelude.{ℕ, ◌≤◌, ◌≡◌, ◌≢◌, ◌⊎◌, Bool, true, false, IsTrue, List, [], ◌++◌, length, map, All, None, Some, IsSome, Result, Ok, Err}
+use Rattle.std.specs.Prelude.{ℕ, ◌<◌, ◌≤◌, ◌≡◌, ◌≢◌, ◌⊎◌, max, Bool, true, false, IsTrue, List, [], ◌++◌, length, slice_index, map, All, None, Some, IsSome, Result, Ok, Err}
 use Rattle.ip_ground.specs.declared.names.FileName.TheVariants.{Control}
 use Rattle.ip_base.specs.declared.exit.Reaped.{Reaped}
 use Rattle.ip_ground.specs.Counts.{Rose, binds}
 use Rattle.ip_ground.specs.Custody.{own}
-use Rattle.ip_ground.specs.Told.{Told, said, lending, ChangesOnly, SyncsOnly, Only, NoFile, IsSynced, EachImageNow}
+use Rattle.ip_ground.specs.Told.{Told, said, lending, KeepsCustody, ChangesOnly, SyncsOnly, Only, NoFile, IsSynced, EachImageNow}
 use Rattle.ip_image.specs.declared.slot.Slot.{Slot}
 use Rattle.ip_image.specs.Slot.{live_index}
 use Rattle.ip_image.specs.Standing.{StandsFor, NoStore, DamagedAt}
@@ -35,6 +35,7 @@ use Rattle.ip_app.specs.Lines.{longest_line, last_piece}
 use Rattle.ip_app.specs.Reading.{EndsReading}
 use Rattle.ip_app.specs.Ending.{ending_of, IsOfBytes}
 use Rattle.ip_app.specs.Exchanges.{Exchange, answer_of, Run, lines_in, turns_in, texts_in, after_all}
+use Rattle.ip_app.specs.Files.{OnlyReads, LeavesFiles, ReadsFiles, SlotsSince}
 use Rattle.ip_app.specs.Happening.{HappenIn, started_in, ends_in}
 use Rattle.ip_app.specs.Serving.{is_cut_short, CountsOf, CountsServing, IsDamage, WritesNone}
 use Rattle.ip_app.specs.Judged.{WatchedIn}
@@ -157,6 +158,8 @@ pub record Replies (rule : Rule) (decisive : Bool) (old new : Outside) (status :
   -- the commands begun are those of their lines, in order, and of all of them unless one cut the call short
   pub begun : (more : List Bytes) × (whole_lines taken ≡ lines_in exchanges ++ more) × (is_cut_off status ≡ false → more ≡ [])
   pub short : All (λ line. length line ≤ longest_line) (lines_in exchanges)
+  -- where one met damage some were begun
+  pub some : IsDamage status → exchanges ≢ []
   -- and are a run of the machine, each with what it met. What is read of records is known only where the ground tells its content
   pub run : Knows decisive old → Run rule first exchanges
   -- What each of them appends comes to lie behind what the live slot says, and what it met of a child that has ended is what that child left, which had been started in the run.
@@ -169,7 +172,9 @@ pub record Replies (rule : Rule) (decisive : Bool) (old new : Outside) (status :
 pub record Reopens (decisive : Bool) (old new : Outside) (status : Status) (exchanges : List Exchange) (first : State) : Type 0 where
   -- At every moment from the first sync of opening on, where the ground was in order: what had been said was a front of the replies' texts, and whatever a crash leaves
   -- stands for the repository after some first commands, all acknowledged ones among them.
+  -- And the slot that is live in it lies so many durable steps at most behind the one that was live, as commands were begun.
   pub any_moment : IsTrue old.ground_tells → IsTrue decisive → (r : Repository) → StandsFor old.told.held r → NothingPending old.told → (since : ℕ) × (IsBehindOpening status exchanges → since ≤ new.told.moment) × Headline since old.told new.told (opened r) (map answer_of exchanges)
+      × ((slot : Slot) → HasLive slot old.told.held → SlotsSince since slot (length exchanges) new.told)
   -- and the ground that is left may be served again, however this run ended
   pub again : IsTrue old.ground_tells → IsTrue decisive → MayServe old.told → MayServe new.told
   -- in the end the files stand for the repository after all of them, unless a fault of the ground or of its files cut the last one short
@@ -178,6 +183,12 @@ pub record Reopens (decisive : Bool) (old new : Outside) (status : Status) (exch
   pub clear : Knows decisive old → is_cut_short status ≡ false → IsClearAt old.told → IsClearAt new.told
   -- of the files that are no chunk and not the control file none is written but by a child: it stays or is removed
   pub files : Knows decisive old → KeepsFiles old.told new.told
+  -- commands that only read, and opening, change and remove no file and lend none to a child, however the run ends
+  pub keeps : Knows decisive old → All OnlyReads exchanges → ReadsFiles old.told new.told
+  -- nor is one written where no command was done and no sweep made
+  pub leaves : Knows decisive old → is_cut_short status ≡ false → All LeavesFiles exchanges → WritesNone old.told new.told
+  -- an attempt that had been drawn when the call began is whose it was, at every moment: it is neither lent nor settled
+  pub lends : Knows decisive old → (slot : Slot) → HasLive slot old.told.held → (n : ℕ) → n < slot.next_attempt → KeepsCustody old.told new.told n
 
 -- What was noted in the log, and what was counted.
 pub record Notes (old new : Outside) (status : Status) (exchanges : List Exchange) : Type 0 where
@@ -254,6 +265,9 @@ pub record IsMade (chunk : ℕ) (old new : Told) : Type 0 where
   pub closed : live_index (control_in old.held) ≡ None
   pub fresh : IsFresh chunk new.held
   pub kept : IsSynced new Control
+  -- what stood behind the two slots stays, and the file grows up to their end at most
+  pub behind : (place : ℕ) → 256 ≤ place → slice_index (control_in new.held) place ≡ slice_index (control_in old.held) place
+  pub no_longer : length (control_in new.held) ≤ max (length (control_in old.held)) 256
   pub stands : EachImageNow new (λ image. StandsFor image no_repository)
   pub clear : IsClearAt new
   pub nothing_pending : ((attempt : ℕ) → lending old attempt ≡ own) → NothingPending new

@@ -31,6 +31,7 @@ use Rattle.ip_app.specs.Lines.{longest_line, HasNoLineFeed, last_piece}
 use Rattle.ip_app.specs.Pending.{pending}
 use Rattle.ip_app.specs.Reading.{EndsReading, IsCaused}
 use Rattle.ip_app.specs.Exchanges.{Exchange, answer_of, lines_in, texts_in}
+use Rattle.ip_app.specs.Files.{ReadsFiles, SlotsSince}
 use Rattle.ip_app.specs.Happening.{HappensCut}
 use Rattle.ip_app.specs.Judged.{IsWatchedTo, Settles}
 use Rattle.ip_app.specs.Outside.{Outside, GoesOn, IsUnasked, but_bound}
@@ -71,6 +72,7 @@ pub record Stopped (status : Status) (known : Bool) (old new : Outside) (lines l
   pub same_said : said new.told ≡ said old.told
   pub same_moment : new.told.moment ≡ old.told.moment
   pub same_held : new.told.held ≡ old.told.held
+  pub keeps : ReadsFiles old.told new.told
   pub same_lending : lending new.told ≡ lending old.told
   pub nothing_pending : NothingPending old.told → NothingPending new.told
   pub same_turns : new.turns ≡ old.turns
@@ -142,3 +144,4 @@ pub record Served (rule : Rule) (decisive : Bool) (old now : Outside) (lines : L
   pub opened_at : IsTrue known → ℕ
   pub over : (is : IsTrue known) → opened_at is ≤ now.told.moment
   pub headline : (is : IsTrue known) → NothingPending old.told → Headline (opened_at is) old.told now.told (opened first) (map answer_of exchanges)
+  pub slots : (is : IsTrue known) → NothingPending old.told → SlotsSince (opened_at is) slot (length exchanges) now.told

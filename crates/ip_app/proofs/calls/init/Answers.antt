@@ -1,10 +1,11 @@
-use Rattle.std.proofs.Common.{rules, inl, inr, Some, ◌-◌, ◌^◌, ◌≤◌, ℕ, refl, ◌≡◌, ◌∙◌, sym, ap, subst, IsTrue, Bool, Ok, Err, Result}
+use Rattle.std.proofs.Common.{max, length, get_or, rules, inl, inr, Some, ◌-◌, ◌^◌, ◌≤◌, ℕ, refl, ◌≡◌, ◌∙◌, sym, ap, subst, IsTrue, Bool, Ok, Err, Result}
 use Rattle.std.specs.Prelude.{IsSome}
 use Rattle.ip_ground.specs.declared.names.FileName.TheVariants.{Control}
 use Rattle.ip_ground.specs.Counts.{Noted, Counted, as_nothing, Counts, CountsIf, binds}
 use Rattle.ip_ground.specs.declared.names.GroundCounts.{GroundCounts}
 use Rattle.ip_ground.specs.Told.{Told, ChangesOnly, Only, NoFile}
 use Rattle.ip_ground.proofs.Spans.{only_on, only_more, lending_now}
+use Rattle.ip_held.specs.Control.{control_in}
 use Rattle.ip_image.specs.Slot.{live_index}
 use Rattle.ip_spec.specs.Path.{Bytes}
 use Rattle.ip_opens.specs.Opening.{Makes}
@@ -30,6 +31,8 @@ init_row chunk made s tells old mid new e only makes = subst (λ (t : Status). I
       closed = ap live_index (sym (same_control old mid (only told))) ∙ (m told).closed;
       fresh = (m told).made;
       kept = (m told).kept;
+      behind = λ place ge. (m told).behind place ge ∙ ap (λ bytes. get_or bytes place 0) (same_control old mid (only told));
+      no_longer = subst (λ bytes. length (control_in new.held) ≤ max (length bytes) 256) (same_control old mid (only told)) (m told).no_longer;
       stands = (m told).stands;
       clear = (m told).clear;
       nothing_pending = λ none. (m told).nothing_pending (λ attempt. lending_now old mid (only told).goes attempt ((only told).lending attempt) ∙ none attempt);

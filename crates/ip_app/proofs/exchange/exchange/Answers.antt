@@ -2,13 +2,17 @@ use Rattle.std.proofs.Common.{rules, ◌-◌, ◌^◌, ◌≤◌, refl, sym, ap,
 use Rattle.std.proofs.Math.Nat.{le_refl}
 use Rattle.ip_ground.specs.declared.names.GroundCounts.{GroundCounts}
 use Rattle.ip_image.specs.declared.counts.TurnCounts.{TurnCounts}
+use Rattle.ip_spec.specs.declared.command.Command.TheVariants as Command
 use Rattle.ip_spec.specs.declared.met.Met.{Met}
+use Rattle.ip_held.specs.declared.collection.Collection.{Collection}
+use Rattle.ip_session.specs.Asking.{GoesOnBy}
 use Rattle.ip_session.specs.Session.{conditions_with, counted_end, state_in, hears, attempt_of}
 use Rattle.ip_app.specs.Turns.{turn_of, AreCounts}
 use Rattle.ip_app.proofs.Counting.{falls_removals, removals_any, bound_any, bound_if, falls_if, ended_counts}
 use Rattle.ip_app.proofs.Concluding.{concluded_line, unheld}
 use Rattle.ip_app.proofs.Judging.{heard_by, started_here, watches_of}
 use Rattle.ip_app.proofs.Happened.{exchange_of, started_of, starts_of, none_started_of, hears_of, happens_of, cut_of, later_in}
+use Rattle.ip_app.proofs.LineFiles.{reads_line, reads_cut, writes_line, lends_line, lends_cut}
 use Rattle.ip_app.proofs.Moments.{cut_again}
 use Rattle.ip_held.proofs.Recovering.{held_has}
 use Rattle.ip_app.proofs.Settling.{settles_line, settles_cut}
@@ -37,9 +41,11 @@ returns-in-Ok-clause-replied g c source_tells left read_faults known r v works =
       exchanged = record {
         begun = begun_of _ known _ _ _ _ _ _ line _ _ went.0.2 asked.jobs asked.ends answered.0
             (record { dir = refl; source_tells = refl; ground_tells = refl; spawner_tells = refl; log_tells = c.note.ensures.told; read_faults = le_refl read_faults; counts = falls_removals _ _ removals; spawns = later_in _ _ _ _ _ _ _ _ asked.asked c.requires.counters })
-            (λ is. (goes is).files) refl (λ is. (goes is).gives) c.met.ensures c.note.ensures.noted counted c.requires.counted (bound_any answered.0 _ _ answered.3.any) asked.told (λ is. g.met.G.Ground.possible c.args.ground.now (works is).0);
+            (λ is. (goes is).files) refl (λ is. (goes is).gives) c.met.ensures c.note.ensures.noted counted c.requires.counted (bound_any answered.0 _ _ answered.3.any) asked.told (λ is. g.met.G.Ground.possible c.args.ground.now (works is).0)
+            (λ is. reads_line s.store.held (g.G.Ground.told c.args.ground.now) (g.G.Ground.told c.answer-answered.new.ground) (g.D.Decides.rule c.args.rules.now) (state_in s r v) (state_in s' went.0.0 went.0.1) (conditions_with s'.met went.0.2) (exchange_of line c.met.result c.args.counts.now c.turn_counts.result went.0.2 asked.jobs asked.ends answered.0 (state_in s' went.0.0 went.0.1)) (goes is).gives (goes is).only)
+            (λ is. let w = works is in lends_line s.store.held (g.G.Ground.told c.args.ground.now) (g.G.Ground.told c.answer-answered.new.ground) r w.1.holds.tables (held_has s.store.held r (g.G.Ground.told c.args.ground.now) w.1.holds) (g.D.Decides.rule c.args.rules.now) (state_in s r v) (state_in s' went.0.0 went.0.1) line (conditions_with s'.met went.0.2) answered.0 (goes is).gives (goes is).only);
         now_at = λ is. refl;
-        goes_on_by = asked.asked.goes_on;
+        goes_on_by = subst (λ (m : Met). GoesOnBy m.child asked.jobs s.store.held.collection s'.store.held.collection) (sym c.met.ensures) asked.asked.goes_on;
         watches = λ is.
             let w = works is in
             let gone = goes is in
@@ -56,8 +62,9 @@ returns-in-Ok-clause-replied g c source_tells left read_faults known r v works =
             (λ has. started_here s.store.held s'.store.held.slot s'.store.held.collection asked.jobs (started_of rule s s' (state_in s r v) after line _ answered.0 asked.jobs asked.ends _ _ asked.asked gone.gives has))
             (none_started_of s s' line (Ok answered.0) asked.jobs asked.ends _ _ asked.asked)
             (λ reaped ended. hears_of rule s s' (state_in s r v) after line went.0.2 answered.0 asked.jobs asked.ends _ _ c.requires.tables asked.asked gone.gives reaped (sym (ap (λ (m : Met). m.child) c.met.ensures) ∙ ended))
-            asked.asked.goes_on asked.asked.sliced;
+            asked.asked.goes_on (λ look. (asked.asked.command Command.Look look).few refl) asked.asked.sliced;
         clear = λ is. let w = works is in (answered.5 w.0 r v w.1).keeps;
+        unwritten = λ is. writes_line s.store.held (g.G.Ground.told c.args.ground.now) (g.G.Ground.told c.answer-answered.new.ground) (g.D.Decides.rule c.args.rules.now) (state_in s r v) (state_in s' went.0.0 went.0.1) (conditions_with s'.met went.0.2) (exchange_of line c.met.result c.args.counts.now c.turn_counts.result went.0.2 asked.jobs asked.ends answered.0 (state_in s' went.0.0 went.0.1)) (goes is).gives (goes is).only;
         happens = happens_of s s' answered.0 went.0.2 asked.jobs asked.ends _ _ _ _ _ line line c.met.result c.args.counts.now c.turn_counts.result refl c.met.ensures c.requires.counted counted asked.asked answered.3;
         phase = refl;
         child = c.answer-answered.ensures.child;
@@ -83,7 +90,9 @@ returns-in-Err-clause-cut g c source_tells left read_faults known r v works =
       line_is = refl;
       begun = begun_of _ known _ _ _ _ _ _ line _ _ ended.0.2 asked.jobs asked.ends ended.0.0
           (record { dir = refl; source_tells = refl; ground_tells = refl; spawner_tells = refl; log_tells = c.note.ensures.told; read_faults = le_refl read_faults; counts = falls; spawns = later_in _ _ _ _ _ _ _ _ asked.asked c.requires.counters })
-          (λ is. (cut is).files) refl (λ is. (cut is).gives) c.met.ensures c.note.ensures.noted (c.turn_counts.ensures ∙ ap₂ turn_of c.counts.ensures c.counts-2.ensures) c.requires.counted (bound_if (counted_end c.in-Err.end) _ _ c.in-Err.ensures.ended.1) asked.told (λ is. g.met.G.Ground.possible c.args.ground.now (works is).0);
+          (λ is. (cut is).files) refl (λ is. (cut is).gives) c.met.ensures c.note.ensures.noted (c.turn_counts.ensures ∙ ap₂ turn_of c.counts.ensures c.counts-2.ensures) c.requires.counted (bound_if (counted_end c.in-Err.end) _ _ c.in-Err.ensures.ended.1) asked.told (λ is. g.met.G.Ground.possible c.args.ground.now (works is).0)
+          (λ is. reads_cut s.store.held (g.G.Ground.told c.args.ground.now) (g.G.Ground.told c.answer-answered.new.ground) (exchange_of line c.met.result c.args.counts.now c.turn_counts.result ended.0.2 asked.jobs asked.ends ended.0.0 ended.0.1) (cut is).only)
+          (λ is. let w = works is in lends_cut s.store.held (g.G.Ground.told c.args.ground.now) (g.G.Ground.told c.answer-answered.new.ground) r w.1.holds.tables (held_has s.store.held r (g.G.Ground.told c.args.ground.now) w.1.holds) line (cut is).only);
       counted = ended_counts c.in-Err.end _ _ c.in-Err.ensures.ended.1;
       happens = cut_of s c.answer-answered.new.self c.in-Err.end ended.0.2 asked.jobs asked.ends ended.0.0 ended.0.1 (g.G.Ground.counts_of c.args.ground.now) (g.G.Ground.counts_of c.answer-answered.new.ground) (g.P.Spawner.counts_of c.args.spawner.now) (g.P.Spawner.counts_of c.answer-answered.new.spawner) line c.met.result c.args.counts.now c.turn_counts.result c.met.ensures c.requires.counted (c.turn_counts.ensures ∙ ap₂ turn_of c.counts.ensures c.counts-2.ensures) asked.asked c.in-Err.ensures.ended.1;
       unwritten = λ told damage. let still = c.in-Err.ensures.untouched told (damaged_end c.in-Err.end damage) in none_still (hears still.0) (attempt_of s.store.held still.0) _ _ still.2;

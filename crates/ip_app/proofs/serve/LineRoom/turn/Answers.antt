@@ -2,6 +2,7 @@ use Rattle.std.proofs.Common.{refl}
 use Rattle.ip_ground.proofs.Rising.{falls_itself}
 use Rattle.ip_held.proofs.KeptFiles.{keeps_itself}
 use Rattle.ip_app.proofs.Counting.{spawns_itself}
+use Rattle.ip_app.proofs.LineFiles.{reads_itself}
 use Rattle.ip_app.proofs.SaidLemmas.{took_of, turned_in, left_unsaid}
 use Rattle.ip_app.proofs.TurnLemmas.{stops_reading, stops_short}
 use Rattle.ip_app.proofs.serve.LineRoom.turn.Goals as goal
@@ -21,6 +22,7 @@ returns-in-Err-clause-stops g c known r v works = stops_reading _ c.in-Err.statu
   same_moment = refl;
   same_held = refl;
   same_lending = refl;
+  keeps = reads_itself (g.G.Ground.told c.args.ground.now);
   nothing_pending = λ order. order;
   same_turns = refl;
   same_counts = refl;
